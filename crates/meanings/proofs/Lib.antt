@@ -1,0 +1,4 @@
+pub mod Firsts
+pub mod TableSound
+pub mod RulesSound
+pub mod ReadingSound
