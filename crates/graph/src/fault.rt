@@ -61,7 +61,11 @@ impl Fault {
     pub fn raise(self) -> Fault
         ensures { λ r. ⌜ r ≡ raised self ⌝ }
     {
-        Fault { cause: self.cause, place: self.place, height: self.height.saturating_add(1) }
+        Fault {
+            cause: self.cause,
+            place: self.place,
+            height: self.height.saturating_add(1),
+        }
     }
 }
 

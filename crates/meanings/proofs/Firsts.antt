@@ -36,9 +36,9 @@ pub first-here : (test : ℕ → Option Fault) (i n : ℕ) (f : Fault) → first
 first-here test i zero f none here h = absurd (omega arith)
 first-here test i (suc n) f none here h =
     elim (cases-order i n) [
-      inl e ↦ let at : n ≡ i = omega arith in rw (at, none, here)
-    | inr (inl l) ↦ rw (first-here test i n f none here l)
-    | inr (inr g) ↦ absurd (omega arith)
+      | inl e ↦ let at : n ≡ i = omega arith in rw (at, none, here)
+      | inr (inl l) ↦ rw (first-here test i n f none here l)
+      | inr (inr g) ↦ absurd (omega arith)
     ]
 
 pub none-below : (test : ℕ → Option Fault) (n : ℕ) → first-below n test ≡ None → (i : ℕ) → i < n → test i ≡ None
@@ -49,7 +49,7 @@ none-below test (suc n) none i h = go (first-below n test) none (none-below test
     go (Some f) e below = absurd (some-none e)
     go None e below =
         elim (cases-order i n) [
-          inl same ↦ ap test same ∙ e
-        | inr (inl l) ↦ below refl i l
-        | inr (inr g) ↦ absurd (omega arith)
+          | inl same ↦ ap test same ∙ e
+          | inr (inl l) ↦ below refl i l
+          | inr (inr g) ↦ absurd (omega arith)
         ]

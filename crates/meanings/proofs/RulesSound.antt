@@ -22,8 +22,8 @@ targets-few : (rs : List Rule) (s : ℕ) → length (targets rs s) ≤ length rs
 targets-few [] s = omega arith
 targets-few (r ∷ rs) s =
     elim (applies r s) as (λ v. length (cond v (moved r s ∷ targets rs s) (targets rs s)) ≤ suc (length rs)) [
-      true ↦ omega (arith, targets-few rs s)
-    | false ↦ omega (arith, targets-few rs s)
+      | true ↦ omega (arith, targets-few rs s)
+      | false ↦ omega (arith, targets-few rs s)
     ]
 
 resting-some : (s : ℕ) (ts : List ℕ) → 1 ≤ length (resting s ts)
@@ -43,9 +43,9 @@ resting-few s n ts h = elim (cases-eq n 0) [ inl e ↦ go ts h (cond-true (eqb n
 
 ltb-suc : (a b : ℕ) → ltb a b ≡ ltb (suc a) (suc b)
 ltb-suc a b = elim (cases-lt a b) [
-    inl l ↦ lt-ltb a b l ∙ sym (lt-ltb (suc a) (suc b) (omega arith))
+  | inl l ↦ lt-ltb a b l ∙ sym (lt-ltb (suc a) (suc b) (omega arith))
   | inr g ↦ le-ltb a b g ∙ sym (le-ltb (suc a) (suc b) (omega arith))
-  ]
+]
 
 nth-there : (xs : List ℕ) (j : ℕ) → isSome (nth xs j) ≡ ltb j (length xs)
 nth-there [] j = sym (le-ltb j 0 (omega arith))
@@ -68,8 +68,8 @@ targets-under bits (r ∷ rs) s l ok =
     let p = and-parts (rule-ok bits r) (all-ok bits rs) ok in
     let under = targets-under bits rs s l (p .1) in
     elim (applies r s) as (λ v. Under (2 ^ bits) (cond v (moved r s ∷ targets rs s) (targets rs s))) [
-      true ↦ (moved-under (p .0), under)
-    | false ↦ under
+      | true ↦ (moved-under (p .0), under)
+      | false ↦ under
     ]
   where
     moved-under : rule-ok bits r ≡ true → moved r s < 2 ^ bits
@@ -91,17 +91,17 @@ ruled-sound bits start rs low inside few ok = record {
     narrow = elim (eqb (length rs) 0) as (λ v. cond v 1 (length rs) ≤ 32768) [ true ↦ omega arith | false ↦ omega (arith, few) ];
   };
   there = λ s j.
-    elim (ltb s (2 ^ bits)) as (λ v. isSome (cond v (nth (out s) j) None) ≡ ltb j (cond v (length (out s)) 0)) [
-      true ↦ nth-there (out s) j
-    | false ↦ sym (le-ltb j 0 (omega arith))
-    ];
+      elim (ltb s (2 ^ bits)) as (λ v. isSome (cond v (nth (out s) j) None) ≡ ltb j (cond v (length (out s)) 0)) [
+        | true ↦ nth-there (out s) j
+        | false ↦ sym (le-ltb j 0 (omega arith))
+      ];
   below = λ s j t e. elim (cases-lt s (2 ^ bits)) [
-    inl l ↦ nth-under (2 ^ bits) (out s) j t (resting-under (2 ^ bits) s (targets rs s) l (targets-under bits rs s l ok)) (sym (cond-true (ltb s (2 ^ bits)) (nth (out s) j) None (lt-ltb s (2 ^ bits) l)) ∙ e)
-  | inr g ↦ absurd (some-none (sym e ∙ cond-false (ltb s (2 ^ bits)) (nth (out s) j) None (le-ltb s (2 ^ bits) g)))
+    | inl l ↦ nth-under (2 ^ bits) (out s) j t (resting-under (2 ^ bits) s (targets rs s) l (targets-under bits rs s l ok)) (sym (cond-true (ltb s (2 ^ bits)) (nth (out s) j) None (lt-ltb s (2 ^ bits) l)) ∙ e)
+    | inr g ↦ absurd (some-none (sym e ∙ cond-false (ltb s (2 ^ bits)) (nth (out s) j) None (le-ltb s (2 ^ bits) g)))
   ];
   few-arrows = λ s. elim (cases-lt s (2 ^ bits)) [
-    inl l ↦ omega (arith, in-degree s l, resting-few s (length rs) (targets rs s) (targets-few rs s))
-  | inr g ↦ omega (arith, out-degree s g)
+    | inl l ↦ omega (arith, in-degree s l, resting-few s (length rs) (targets rs s) (targets-few rs s))
+    | inr g ↦ omega (arith, out-degree s g)
   ];
   total = λ s h. omega (arith, in-degree s h, resting-some s (targets rs s));
   not-initial = λ s h. ne-eqb s start (λ e. omega (arith, e, h, inside));

@@ -55,23 +55,23 @@ whole-sound : (b : List ℕ) → Fine b → Sound (whole b)
 whole-sound b f = record {
   by-fault = record { some-state = f .some-state; few-states = f .few-states; narrow = omega (arith, f .few-arrows) };
   there = λ s j.
-    elim (ltb s (count b)) as (λ v. isSome (cond (v && ltb j (degree s)) (Some (arrow s j)) None) ≡ ltb j (cond v (degree s) 0)) [
-      true ↦ elim (ltb j (degree s)) as (λ v. isSome (cond v (Some (arrow s j)) None) ≡ v) [ true ↦ refl | false ↦ refl ]
-    | false ↦ sym (le-ltb j 0 (omega arith))
-    ];
+      elim (ltb s (count b)) as (λ v. isSome (cond (v && ltb j (degree s)) (Some (arrow s j)) None) ≡ ltb j (cond v (degree s) 0)) [
+        | true ↦ elim (ltb j (degree s)) as (λ v. isSome (cond v (Some (arrow s j)) None) ≡ v) [ true ↦ refl | false ↦ refl ]
+        | false ↦ sym (le-ltb j 0 (omega arith))
+      ];
   below = λ s j t e. elim (cases-lt s (count b)) [
-    inl l ↦ elim (cases-lt j (degree s)) [
-      inl d ↦
-        let here = cond-true (ltb s (count b) && ltb j (degree s)) (Some (arrow s j)) None (and-from (ltb s (count b)) (ltb j (degree s)) (lt-ltb s (count b) l) (lt-ltb j (degree s) d)) in
-        let same : arrow s j ≡ t = cc in
-        omega (arith, same, f .targets (before b s + j) (omega (arith, f .rows s l .1)))
-    | inr g ↦ absurd (some-none (sym e ∙ nothing s j (and-right (ltb s (count b)) (ltb j (degree s)) (le-ltb j (degree s) g))))
+    | inl l ↦ elim (cases-lt j (degree s)) [
+      | inl d ↦
+          let here = cond-true (ltb s (count b) && ltb j (degree s)) (Some (arrow s j)) None (and-from (ltb s (count b)) (ltb j (degree s)) (lt-ltb s (count b) l) (lt-ltb j (degree s) d)) in
+          let same : arrow s j ≡ t = cc in
+          omega (arith, same, f .targets (before b s + j) (omega (arith, f .rows s l .1)))
+      | inr g ↦ absurd (some-none (sym e ∙ nothing s j (and-right (ltb s (count b)) (ltb j (degree s)) (le-ltb j (degree s) g))))
     ]
-  | inr g ↦ absurd (some-none (sym e ∙ nothing s j (and-left (ltb s (count b)) (ltb j (degree s)) (le-ltb s (count b) g))))
+    | inr g ↦ absurd (some-none (sym e ∙ nothing s j (and-left (ltb s (count b)) (ltb j (degree s)) (le-ltb s (count b) g))))
   ];
   few-arrows = λ s. elim (cases-lt s (count b)) [
-    inl l ↦ omega (arith, in-degree s l, f .rows s l .1)
-  | inr g ↦ omega (arith, out-degree s g)
+    | inl l ↦ omega (arith, in-degree s l, f .rows s l .1)
+    | inr g ↦ omega (arith, out-degree s g)
   ];
   total = λ s h. omega (arith, in-degree s h, f .rows s h .0);
   not-initial = λ s h. cond-false (ltb s (count b)) (initial-of b s) false (le-ltb s (count b) h);

@@ -11,6 +11,7 @@ use Rattle.std.specs.declared.option.Option.the-variants.{Some, None}
 use Rattle.graph.specs.declared.fault.Cause.the-variants.{MapBit, Range, RowEnd, Target, LeftOver}
 use Rattle.graph.specs.declared.fault.Fault.{Fault}
 use Rattle.graph.specs.Graph.{Graph, faulty}
+use Rattle.meanings.specs.declared.Columns.{Columns}
 use Rattle.meanings.specs.Fields.{byte, pair, unless, reach, first, first-below}
 
 -- The layout -----------------------------------------------------------------
@@ -121,3 +122,11 @@ by-fault (Some f) b = faulty f
 -- what the bytes tell, whatever they are
 abbrev pub table : List ℕ → Graph
 table b = by-fault (table-fault b) b
+
+-- which columns stand
+abbrev pub columns-by : Option Fault → ℕ → Columns
+columns-by None map = record { words = has-words map; initials = has-initials map }
+columns-by (Some f) map = record { words = false; initials = false }
+
+abbrev pub columns : List ℕ → Columns
+columns b = columns-by (table-fault b) (byte b 0)

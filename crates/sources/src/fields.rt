@@ -24,7 +24,11 @@ pub(super) fn test(ok: bool, cause: Cause, place: usize) -> Result<(), Fault>
     if ok {
         Ok(())
     } else {
-        Err(Fault { cause, place, height: 0 })
+        Err(Fault {
+            cause,
+            place,
+            height: 0,
+        })
     }
 }
 

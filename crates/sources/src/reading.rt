@@ -48,31 +48,59 @@ pub impl<S: Source> Source for Reading<S> as ReadingSource {
         match self.below.check() {
             Err(f) => Err(f.raise()),
             Ok(_) if self.bit < WORD_BITS => Ok(()),
-            Ok(_) => Err(Fault { cause: Cause::Range, place: 0, height: 0 }),
+            Ok(_) => Err(Fault {
+                cause: Cause::Range,
+                place: 0,
+                height: 0,
+            }),
         }
     }
 
     fn states(&self) -> u16 {
-        if self.bit < WORD_BITS { self.below.states() } else { 0 }
+        if self.bit < WORD_BITS {
+            self.below.states()
+        } else {
+            0
+        }
     }
 
     fn width(&self) -> u16 {
-        if self.bit < WORD_BITS { self.below.width() } else { 0 }
+        if self.bit < WORD_BITS {
+            self.below.width()
+        } else {
+            0
+        }
     }
 
     fn initial(&self, s: State) -> bool {
-        if self.bit < WORD_BITS { self.below.initial(s) } else { false }
+        if self.bit < WORD_BITS {
+            self.below.initial(s)
+        } else {
+            false
+        }
     }
 
     fn word(&self, s: State) -> Word {
-        if self.bit < WORD_BITS { reread_word(self.bit, self.mask, self.below.word(s)) } else { 0 }
+        if self.bit < WORD_BITS {
+            reread_word(self.bit, self.mask, self.below.word(s))
+        } else {
+            0
+        }
     }
 
     fn degree(&self, s: State) -> u16 {
-        if self.bit < WORD_BITS { self.below.degree(s) } else { 0 }
+        if self.bit < WORD_BITS {
+            self.below.degree(s)
+        } else {
+            0
+        }
     }
 
     fn arrow(&self, s: State, j: u16) -> Option<State> {
-        if self.bit < WORD_BITS { self.below.arrow(s, j) } else { None }
+        if self.bit < WORD_BITS {
+            self.below.arrow(s, j)
+        } else {
+            None
+        }
     }
 }

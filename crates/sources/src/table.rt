@@ -7,7 +7,7 @@ ghost use Rattle.std.specs.Results.{Cases, errPart};
 ghost use Rattle.std.specs.Vec.{made};
 ghost use Rattle.std.specs.declared.option.Option.the-variants.{Some, None};
 ghost use Rattle.meanings.specs.Fields.{byte, first-below};
-ghost use Rattle.meanings.specs.Table.{initials-at, rows-at, targets-at, table-end, header-fault, columns-fault, rows-fault, targets-fault, row-ok, row-fault, target-fault, row, before, table-fault, table};
+ghost use Rattle.meanings.specs.Table.{initials-at, rows-at, targets-at, table-end, header-fault, columns-fault, rows-fault, targets-fault, row-ok, row-fault, target-fault, row, before, table-fault, table, columns};
 ghost use Rattle.meanings.proofs.TableSound.{table-sound};
 ghost use Rattle.sources.specs.Headers.{Headed, Tested};
 use crate::fields::pair_at;
@@ -18,6 +18,7 @@ use graph::Word;
 use graph::fault::Cause;
 use graph::fault::Fault;
 use graph::source::Source;
+use meanings::Columns;
 
 // The bytes, and what was read of their header: each question is then one look at a known offset.
 #[derive(Clone, Copy)]
@@ -39,18 +40,25 @@ struct Header {
 }
 
 impl Header {
-
     fn initials_at(&self) -> usize
         ensures { λ r. ⌜ r ≡ initials-at (now (self .entry) .map) (now (self .entry) .states) ⌝ }
     {
-        if self.map & 1 == 1 { 5 + 2 * self.states as usize } else { 5 }
+        if self.map & 1 == 1 {
+            5 + 2 * self.states as usize
+        } else {
+            5
+        }
     }
 
     fn rows_at(&self) -> usize
         ensures { λ r. ⌜ r ≡ rows-at (now (self .entry) .map) (now (self .entry) .states) ⌝ ∗ ⌜ r < 2 ^ 19 ⌝ }
     {
         let at = self.initials_at();
-        if self.map & 2 == 2 { at + (self.states as usize + 7) / 8 } else { at }
+        if self.map & 2 == 2 {
+            at + (self.states as usize + 7) / 8
+        } else {
+            at
+        }
     }
 
     fn targets_at(&self) -> usize
@@ -91,7 +99,11 @@ fn test_columns(bytes: &[u8], h: Header) -> Result<(), Fault>
     reach_to(bytes, end)?;
     if h.map & 2 == 2 {
         let used = (h.states - 1) % 8 + 1;
-        test((bytes[end - 1] as u16) < 1u16 << used, Cause::Range, end - 1)
+        test(
+            (bytes[end - 1] as u16) < 1u16 << used,
+            Cause::Range,
+            end - 1,
+        )
     } else {
         Ok(())
     }
@@ -126,7 +138,11 @@ fn test_row(bytes: &[u8], h: Header, i: State) -> Result<(), Fault>
     requires { ⌜ Headed (now bytes) (h .map) (h .states) (h .width) ⌝ ∗ ⌜ i < h .states ⌝ ∗ ⌜ targets-at (h .map) (h .states) ≤ length (now bytes) ⌝ }
     ensures { λ r. ⌜ errPart r ≡ row-fault (now (bytes .entry)) i ⌝ }
 {
-    test(row_fits(bytes, h, i), Cause::RowEnd, h.rows_at() + 2 * i as usize)
+    test(
+        row_fits(bytes, h, i),
+        Cause::RowEnd,
+        h.rows_at() + 2 * i as usize,
+    )
 }
 
 fn test_each_row(bytes: &[u8], h: Header) -> Result<(), Fault>
@@ -190,11 +206,39 @@ fn read_table(bytes: &[u8]) -> Result<Header, Fault>
 impl<'a> Table<'a> {
     // The source of these bytes, whatever they are: a table with a fault is a source too.
     pub fn new(bytes: &'a [u8]) -> Table<'a>
-        ensures { λ r. ⌜ table (now (r .bytes)) ≡ table (now (bytes .entry)) ⌝ }
+        ensures { λ r. ⌜ now (r .bytes) ≡ now (bytes .entry) ⌝ }
     {
         match read_table(bytes) {
-            Ok(header) => Table { bytes, fault: None, header },
-            Err(f) => Table { bytes, fault: Some(f), header: Header { map: 0, states: 0, width: 0 } },
+            Ok(header) => Table {
+                bytes,
+                fault: None,
+                header,
+            },
+            Err(f) => Table {
+                bytes,
+                fault: Some(f),
+                header: Header {
+                    map: 0,
+                    states: 0,
+                    width: 0,
+                },
+            },
+        }
+    }
+
+    // Which columns stand. The graph does not tell: a column left out and one of zeros mean the same.
+    pub fn columns(&self) -> Columns
+        ensures { λ r. ⌜ r ≡ columns (now (now (self .entry) .bytes)) ⌝ }
+    {
+        match self.fault {
+            Some(_) => Columns {
+                words: false,
+                initials: false,
+            },
+            None => Columns {
+                words: self.header.map & 1 == 1,
+                initials: self.header.map & 2 == 2,
+            },
         }
     }
 }
@@ -255,6 +299,9 @@ pub impl Source for Table<'_> as TableSource {
         if j >= row_end(self.bytes, self.header, s) - start {
             return None;
         }
-        Some(pair_at(self.bytes, self.header.targets_at() + 2 * (start + j) as usize))
+        Some(pair_at(
+            self.bytes,
+            self.header.targets_at() + 2 * (start + j) as usize,
+        ))
     }
 }

@@ -1,0 +1,4 @@
+pub mod Leads
+pub mod Masks
+pub mod RuleReads
+pub mod ListReads
