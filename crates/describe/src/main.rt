@@ -1,4 +1,5 @@
 // Prints the graph that a control table, or a list of rules, tells.
+use graph::Word;
 use graph::fault::Fault;
 use graph::fault::FaultDisplay;
 use graph::source::Source;
@@ -12,54 +13,123 @@ use sources::table::TableSource;
 use std::alloc::AllocError;
 use std::alloc::Global;
 use std::env;
+use std::fmt;
 use std::io;
 use std::io::Read;
 
-// The most bytes that are read.
-const MOST: usize = 65536;
+// How much of standard input is read.
+const MOST: u64 = 65536;
 
-const USAGE: &str = "usage: describe [rules] [reading BIT MASK], the mask in hexadecimal, the bytes on standard input";
-
-// A bit and a mask for a layer over the source.
+// A reading that is laid over the source.
 #[derive(Clone, Copy)]
 struct Layer {
     bit: u8,
-    mask: u16,
+    mask: Word,
 }
 
 // What the arguments ask for.
 #[derive(Clone, Copy)]
-struct Asked {
+struct Request {
     rules: bool,
     layer: Option<Layer>,
 }
 
-// Why nothing was printed.
+// Why nothing is printed.
+#[derive(Drop)]
 enum Failure {
     Usage,
-    Faulty(Fault),
     Input,
     Memory,
+    Faulty(Fault),
 }
 
-impl From<AllocError> for Failure as NoMemory {
-    fn from(_e: AllocError) -> Failure {
-        Failure::Memory
-    }
-}
-
-impl From<io::Error> for Failure as NoInput {
+impl From<io::Error> for Failure as InputFailure {
     fn from(_e: io::Error) -> Failure {
         Failure::Input
     }
 }
 
-impl From<Fault> for Failure as HasFault {
+impl From<AllocError> for Failure as MemoryFailure {
+    fn from(_e: AllocError) -> Failure {
+        Failure::Memory
+    }
+}
+
+impl From<Fault> for Failure as FaultFailure {
     fn from(f: Fault) -> Failure {
         Failure::Faulty(f)
     }
 }
 
-fn main(rt: LibcRuntime) -> Result<(), ()> {
-    Ok(())
+impl fmt::Display for Failure as FailureDisplay {
+    fn fmt<W: fmt::Write>(&self, f: &mut fmt::Formatter<W>) -> fmt::Result {
+        match self {
+            Failure::Usage => write!(f, "arguments: [rules] [reading BIT MASK], BIT from 0 to 255, MASK in hexadecimal"),
+            Failure::Input => write!(f, "standard input or the arguments cannot be read"),
+            Failure::Memory => write!(f, "out of memory"),
+            Failure::Faulty(fault) => {
+                let words = fault.cause.words();
+                write!(f, "fault {fault}: {words}")
+            }
+        }
+    }
+}
+
+fn parse_layer(bit: &str, mask: &str) -> Result<Layer, Failure> {
+    match (bit.parse::<u8>(), Word::from_str_radix(mask, 16)) {
+        (Ok(bit), Ok(mask)) => Ok(Layer { bit, mask }),
+        _ => Err(Failure::Usage),
+    }
+}
+
+fn parse_request(words: &[String]) -> Result<Request, Failure> {
+    let rules = words.len() > 0 && words[0].as_str() == "rules";
+    let rest = if rules { &words[1..] } else { words };
+    match rest {
+        [] => Ok(Request { rules, layer: None }),
+        [name, bit, mask] if name.as_str() == "reading" => {
+            Ok(Request { rules, layer: Some(parse_layer(bit.as_str(), mask.as_str())?) })
+        }
+        _ => Err(Failure::Usage),
+    }
+}
+
+fn read_request(rt: &LibcRuntime) -> Result<Request, Failure> {
+    let words: Vec<String> = env::args(rt)?.skip(1).collect(rt.alloc())?;
+    parse_request(&words)
+}
+
+fn tell<S: Source>(heap: Global, source: &S, columns: Option<Columns>) -> Result<String, Failure> {
+    source.check()?;
+    Ok(text::describe(heap, source, columns)?)
+}
+
+fn tell_layered<S: Source + Drop>(heap: Global, source: S, layer: Option<Layer>, columns: Option<Columns>) -> Result<String, Failure> {
+    match layer {
+        None => tell(heap, &source, columns),
+        Some(l) => tell(heap, &Reading::new(source, l.bit, l.mask), columns),
+    }
+}
+
+fn run(rt: &LibcRuntime) -> Result<String, Failure> {
+    let heap = rt.alloc();
+    let request = read_request(rt)?;
+    let mut bytes = Vec::new(heap);
+    rt.stdin().take(MOST).read_to_end(&mut bytes)?;
+    if request.rules {
+        tell_layered(heap, RuleList::new(&bytes), request.layer, None)
+    } else {
+        let table = Table::new(&bytes);
+        tell_layered(heap, table, request.layer, Some(table.columns()))
+    }
+}
+
+fn main(rt: LibcRuntime) -> io::Result<()> {
+    match run(&rt) {
+        Ok(text) => print!(rt, "{text}"),
+        Err(failure) => {
+            eprintln!(rt, "describe: {failure}")?;
+            Err(io::Error::from(io::ErrorKind::InvalidInput))
+        }
+    }
 }
