@@ -4,18 +4,18 @@ use graph::fault::Fault;
 use graph::fault::FaultDisplay;
 use graph::source::Source;
 use meanings::Columns;
-use sources::reading::Reading;
-use sources::reading::ReadingSource;
-use sources::rule_list::RuleList;
-use sources::rule_list::RuleListSource;
-use sources::table::Table;
-use sources::table::TableSource;
+use reading::Reading;
+use reading::ReadingSource;
+use rules::RuleList;
+use rules::RuleListSource;
 use std::alloc::AllocError;
 use std::alloc::Global;
 use std::env;
 use std::fmt;
 use std::io;
 use std::io::Read;
+use table::Table;
+use table::TableSource;
 
 // How much of standard input is read.
 const MOST: u64 = 65536;
@@ -64,7 +64,10 @@ impl From<Fault> for Failure as FaultFailure {
 impl fmt::Display for Failure as FailureDisplay {
     fn fmt<W: fmt::Write>(&self, f: &mut fmt::Formatter<W>) -> fmt::Result {
         match self {
-            Failure::Usage => write!(f, "arguments: [rules] [reading BIT MASK], BIT from 0 to 255, MASK in hexadecimal"),
+            Failure::Usage => write!(
+                f,
+                "arguments: [rules] [reading BIT MASK], BIT from 0 to 255, MASK in hexadecimal"
+            ),
             Failure::Input => write!(f, "standard input or the arguments cannot be read"),
             Failure::Memory => write!(f, "out of memory"),
             Failure::Faulty(fault) => {
@@ -88,7 +91,10 @@ fn parse_request(words: &[String]) -> Result<Request, Failure> {
     match rest {
         [] => Ok(Request { rules, layer: None }),
         [name, bit, mask] if name.as_str() == "reading" => {
-            Ok(Request { rules, layer: Some(parse_layer(bit.as_str(), mask.as_str())?) })
+            Ok(Request {
+                rules,
+                layer: Some(parse_layer(bit.as_str(), mask.as_str())?),
+            })
         }
         _ => Err(Failure::Usage),
     }
@@ -104,7 +110,12 @@ fn tell<S: Source>(heap: Global, source: &S, columns: Option<Columns>) -> Result
     Ok(text::describe(heap, source, columns)?)
 }
 
-fn tell_layered<S: Source + Drop>(heap: Global, source: S, layer: Option<Layer>, columns: Option<Columns>) -> Result<String, Failure> {
+fn tell_layered<S: Source + Drop>(
+    heap: Global,
+    source: S,
+    layer: Option<Layer>,
+    columns: Option<Columns>,
+) -> Result<String, Failure> {
     match layer {
         None => tell(heap, &source, columns),
         Some(l) => tell(heap, &Reading::new(source, l.bit, l.mask), columns),

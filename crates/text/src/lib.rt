@@ -33,7 +33,11 @@ fn digit(d: u8) -> char
     requires { ⌜ d < 16 ⌝ }
     ensures { λ r. ⌜ r ≡ hex-digit d ⌝ ∗ ⌜ r < 128 ⌝ }
 {
-    if d < 10 { (b'0' + d) as char } else { (b'a' + (d - 10)) as char }
+    if d < 10 {
+        (b'0' + d) as char
+    } else {
+        (b'a' + (d - 10)) as char
+    }
 }
 
 fn put_digit(out: &mut String, d: u8) -> Result<(), AllocError>
@@ -76,7 +80,11 @@ fn put_targets<S: Source>(out: &mut String, source: &S, s: State) -> Result<(), 
 fn put_initial(out: &mut String, initial: bool) -> Result<(), AllocError>
     ensures { λ r. ⌜ made r (λ _. Adds (string-bytes (now (out .entry))) (initial-text initial) (string-bytes (now (out .exit)))) ⌝ }
 {
-    if initial { put(out, " initial") } else { Ok(()) }
+    if initial {
+        put(out, " initial")
+    } else {
+        Ok(())
+    }
 }
 
 fn put_state<S: Source>(out: &mut String, source: &S, s: State) -> Result<(), AllocError>
@@ -135,7 +143,11 @@ fn put_columns(out: &mut String, columns: Option<Columns>) -> Result<(), AllocEr
 }
 
 // The text of the graph that a source tells. Which columns stand is told of a table only.
-pub fn describe<S: Source>(heap: Global, source: &S, columns: Option<Columns>) -> Result<String, AllocError>
+pub fn describe<S: Source>(
+    heap: Global,
+    source: &S,
+    columns: Option<Columns>,
+) -> Result<String, AllocError>
     ensures { λ r. ⌜ made r (λ t. string-bytes t ≡ graph-text columns (S·Source .meaning (now (source .entry)))) ⌝ }
 {
     let mut out = String::new(heap);

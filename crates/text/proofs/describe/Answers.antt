@@ -11,9 +11,9 @@ pub returns : need.returns
 returns g c =
     let m = g .S·Source .meaning (c .args .source .now) in
     let all =
-      being (ap₂ (λ (n : ℕ) (a : ℕ). codes "states " ++ (decimal n ++ (codes "\narrows " ++ (decimal a ++ (newline ++ (columns-text (c .args .columns) ++ states-text m (m .states)))))))
-        (c .states .ensures) (c .count-arrows .ensures))
-      (then (c .in-Continue-put .ensures tt) (then (c .in-Continue-put-number .ensures tt) (then (c .in-Continue-put-2 .ensures tt)
-      (then (c .in-Continue-put-number-2 .ensures tt) (then (c .in-Continue-put-3 .ensures tt)
-      (then (c .in-Continue-put-columns .ensures tt) (c .in-Continue-put-states .ensures tt))))))) in
+    being (ap₂ (λ (n : ℕ) (a : ℕ). codes "states " ++ (decimal n ++ (codes "\narrows " ++ (decimal a ++ (newline ++ (columns-text (c .args .columns) ++ states-text m (m .states)))))))
+    (c .states .ensures) (c .count-arrows .ensures))
+    (then (c .in-Continue-put .ensures tt) (then (c .in-Continue-put-number .ensures tt) (then (c .in-Continue-put-2 .ensures tt)
+    (then (c .in-Continue-put-number-2 .ensures tt) (then (c .in-Continue-put-3 .ensures tt)
+    (then (c .in-Continue-put-columns .ensures tt) (c .in-Continue-put-states .ensures tt))))))) in
     all .is ∙ ap (λ (l : List ℕ). l ++ graph-text (c .args .columns) m) (c .new-out .ensures .bytes)

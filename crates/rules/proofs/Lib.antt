@@ -1,0 +1,4 @@
+pub mod ListReads
+pub mod Masks
+pub mod RuleReads
+pub mod Targets

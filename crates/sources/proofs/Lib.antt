@@ -1,4 +1,0 @@
-pub mod Leads
-pub mod Masks
-pub mod RuleReads
-pub mod ListReads
