@@ -1,5 +1,6 @@
 // Prints the graph that a control table, or a list of rules, tells.
 use graph::Word;
+use graph::fault::CauseDisplay;
 use graph::fault::Fault;
 use graph::fault::FaultDisplay;
 use graph::source::Source;
@@ -71,8 +72,8 @@ impl fmt::Display for Failure as FailureDisplay {
             Failure::Input => write!(f, "standard input or the arguments cannot be read"),
             Failure::Memory => write!(f, "out of memory"),
             Failure::Faulty(fault) => {
-                let words = fault.cause.words();
-                write!(f, "fault {fault}: {words}")
+                let cause = fault.cause;
+                write!(f, "fault {fault}: {cause}")
             }
         }
     }

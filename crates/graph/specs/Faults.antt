@@ -1,7 +1,5 @@
--- The number of each cause, its words, and a fault on its way up.
-use mathlib.Core.List.{List}
+-- The number of each cause, and a fault on its way up.
 use Prim.Native.Nat.{ℕ, _+_, min}
-use lib.Chars.{codes}
 use Rattle.graph.specs.declared.fault.Cause.{Cause}
 use Rattle.graph.specs.declared.fault.Cause.the-variants.{Short, MapBit, Range, RowEnd, Target, LeftOver, Mask}
 use Rattle.graph.specs.declared.fault.Fault.{Fault}
@@ -14,15 +12,6 @@ cause-number RowEnd = 4
 cause-number Target = 5
 cause-number LeftOver = 6
 cause-number Mask = 7
-
-abbrev pub cause-words : Cause → List ℕ
-cause-words Short = codes "the bytes end inside a field"
-cause-words MapBit = codes "a map bit without a field"
-cause-words Range = codes "a value outside its range"
-cause-words RowEnd = codes "a row end out of order"
-cause-words Target = codes "a target that is not a state"
-cause-words LeftOver = codes "bytes left over"
-cause-words Mask = codes "a rule's mask out of range, or a bit both set and cleared"
 
 -- a fault that has passed one more layer: the height stops at 255
 abbrev pub raised : Fault → Fault

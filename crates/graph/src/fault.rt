@@ -1,6 +1,6 @@
 // What is wrong with a source.
 ghost use mathlib.Core.Path.{_≡_};
-ghost use Rattle.graph.specs.Faults.{cause-number, cause-words, raised};
+ghost use Rattle.graph.specs.Faults.{cause-number, raised};
 use std::fmt;
 
 // The rule that a source breaks.
@@ -30,12 +30,12 @@ impl Cause {
             Cause::Mask => 7,
         }
     }
+}
 
-    // The cause as a person reads it.
-    pub fn words(self) -> &'static str
-        ensures { λ r. ⌜ now r ≡ cause-words self ⌝ }
-    {
-        match self {
+// The cause as a person reads it.
+pub impl fmt::Display for Cause as CauseDisplay {
+    fn fmt<W: fmt::Write>(&self, f: &mut fmt::Formatter<W>) -> fmt::Result {
+        let words = match self {
             Cause::Short => "the bytes end inside a field",
             Cause::MapBit => "a map bit without a field",
             Cause::Range => "a value outside its range",
@@ -43,7 +43,8 @@ impl Cause {
             Cause::Target => "a target that is not a state",
             Cause::LeftOver => "bytes left over",
             Cause::Mask => "a rule's mask out of range, or a bit both set and cleared",
-        }
+        };
+        write!(f, "{words}")
     }
 }
 
