@@ -3,14 +3,14 @@ use mathlib.Core.Path.{_≡_, refl, ap, sym, _∙_}
 use mathlib.Core.Bool.{Bool, true, false, cond}
 use Prim.Native.Nat.{ℕ}
 use native.Mathlib.Omega.{arith}
-use lib.Dec.{leb, ltb}
+use lib.Dec.{ltb}
 use Rattle.std.specs.Options.{isSome}
 use Rattle.std.specs.declared.option.Option.{Option}
 use Rattle.std.specs.declared.option.Option.the-variants.{Some, None}
 use Rattle.std.proofs.shelf.Tests.{le-ltb}
 use Rattle.graph.specs.declared.fault.Cause.the-variants.{Range}
 use Rattle.graph.specs.declared.fault.Fault.{Fault}
-use Rattle.graph.specs.Graph.{Graph, Sound, By-fault}
+use Rattle.graph.specs.Graph.{Graph, Sound, By-fault, word-bits}
 use Rattle.graph.proofs.Faulty.{some-none}
 use Rattle.meanings.specs.Fields.{unless, or-else}
 use Rattle.meanings.specs.Reading.{reread, passed, reading}
@@ -62,4 +62,4 @@ read-sound false bit mask g S = record {
 
 pub reading-sound : (bit mask : ℕ) (g : Graph) → Sound g → Sound (reading bit mask g)
 unfolding read-by
-reading-sound bit mask g S = read-sound (leb bit 15) bit mask g S
+reading-sound bit mask g S = read-sound (ltb bit word-bits) bit mask g S

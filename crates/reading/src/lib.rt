@@ -1,6 +1,7 @@
 // A layer that sets one bit of each word by a mask, over any source.
 ghost use mathlib.Core.Path.{_≡_};
 ghost use Prim.Native.Nat.{_<_};
+ghost use Rattle.graph.specs.Graph.{word-bits};
 ghost use Rattle.meanings.specs.Reading.{reread, reading};
 ghost use Rattle.meanings.proofs.ReadingSound.{reading-sound};
 use graph::State;
@@ -28,7 +29,7 @@ impl<S: Source> Reading<S> {
 }
 
 fn reread_word(bit: u8, mask: Word, word: Word) -> Word
-    requires { ⌜ bit < 16 ⌝ }
+    requires { ⌜ bit < word-bits ⌝ }
     ensures { λ r. ⌜ r ≡ reread bit mask word ⌝ }
 {
     let one = (1 as Word) << bit;
