@@ -15,7 +15,8 @@ use Rattle.graph.specs.declared.fault.Cause.the-variants.{MapBit, Range, RowEnd
 use Rattle.graph.specs.declared.fault.Fault.{Fault}
 use Rattle.graph.specs.Graph.{Graph, Sound, faulty}
 use Rattle.graph.proofs.Faulty.{faulty-sound, some-none}
-use Rattle.meanings.specs.Fields.{byte, unless, reach, first, first-below}
+use Rattle.graph.specs.Bytes.{byte}
+use Rattle.meanings.specs.Fields.{unless, reach, first, first-below}
 use Rattle.meanings.specs.Table.{count, arrows, row, before, target, row-ok, row-fault, target-fault, table-end, targets-at, rows-at, header-fault, columns-fault, rows-fault, targets-fault, table-fault, word-of, initial-of, whole, by-fault, table}
 use Rattle.meanings.proofs.Firsts.{pass, passes, none-below}
 

@@ -1,21 +1,14 @@
--- Fields of bytes, and the first fault of several tests.
+-- The first fault of several tests of a field.
 use mathlib.Core.List.{List, [], _∷_}
 use mathlib.Core.Bool.{Bool, cond}
-use Prim.Native.Nat.{ℕ, zero, suc, _+_, _*_}
-use lib.ListN.{length, getD}
+use Prim.Native.Nat.{ℕ, zero, suc}
+use lib.ListN.{length}
 use lib.Dec.{leb}
 use Rattle.std.specs.declared.option.Option.{Option}
 use Rattle.std.specs.declared.option.Option.the-variants.{Some, None}
 use Rattle.graph.specs.declared.fault.Cause.{Cause}
 use Rattle.graph.specs.declared.fault.Cause.the-variants.{Short}
 use Rattle.graph.specs.declared.fault.Fault.{Fault}
-
--- the byte at an offset, and the number in two bytes, the high byte first
-abbrev pub byte : List ℕ → ℕ → ℕ
-byte b i = getD b i 0
-
-abbrev pub pair : List ℕ → ℕ → ℕ
-pair b i = byte b i * 256 + byte b (i + 1)
 
 -- a fault where it arises has passed no layer
 abbrev pub fault-at : Cause → ℕ → Fault

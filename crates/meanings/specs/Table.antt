@@ -12,7 +12,8 @@ use Rattle.graph.specs.declared.fault.Cause.the-variants.{MapBit, Range, RowEnd
 use Rattle.graph.specs.declared.fault.Fault.{Fault}
 use Rattle.graph.specs.Graph.{Graph, faulty}
 use Rattle.meanings.specs.declared.Columns.{Columns}
-use Rattle.meanings.specs.Fields.{byte, pair, unless, reach, first, first-below}
+use Rattle.graph.specs.Bytes.{byte, pair}
+use Rattle.meanings.specs.Fields.{unless, reach, first, first-below}
 
 -- The layout -----------------------------------------------------------------
 

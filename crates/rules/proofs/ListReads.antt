@@ -13,7 +13,8 @@ use Rattle.std.specs.declared.option.Option.the-variants.{Some, None}
 use Rattle.graph.specs.declared.fault.Cause.the-variants.{MapBit, Range, LeftOver}
 use Rattle.graph.specs.declared.fault.Fault.{Fault}
 use Rattle.meanings.specs.declared.Rule.{Rule}
-use Rattle.meanings.specs.Fields.{byte, unless, reach}
+use Rattle.graph.specs.Bytes.{byte}
+use Rattle.meanings.specs.Fields.{unless, reach}
 use Rattle.meanings.specs.RuleList.{bits, count, start, rules-at, body, from-rule, rules, header-fault, all-ok, rules-fault, rest-fault, list-fault}
 use Rattle.meanings.proofs.Firsts.{pass, passes}
 use Rattle.rules.specs.Rests.{Rules-read, Header-read, List-read}

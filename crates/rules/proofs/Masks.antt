@@ -8,7 +8,7 @@ use native.Mathlib.Omega.{arith}
 use lib.ListN.{length, drop, length-drop}
 use Rattle.std.proofs.shelf.Lists.{drop-drop, getD-drop}
 use Rattle.meanings.specs.declared.Rule.{Rule}
-use Rattle.meanings.specs.Fields.{byte, pair}
+use Rattle.graph.specs.Bytes.{byte, pair}
 use Rattle.meanings.specs.RuleList.{stands, masks-before, mask, masks}
 use Rattle.rules.specs.Rests.{mask-size, Mask-read, Masks-read}
 

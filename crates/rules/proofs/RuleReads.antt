@@ -14,7 +14,8 @@ use Rattle.std.specs.declared.option.Option.the-variants.{Some, None}
 use Rattle.graph.specs.declared.fault.Cause.the-variants.{Short, MapBit, Mask}
 use Rattle.graph.specs.declared.fault.Fault.{Fault}
 use Rattle.meanings.specs.declared.Rule.{Rule}
-use Rattle.meanings.specs.Fields.{byte, unless, or-else, first-below}
+use Rattle.graph.specs.Bytes.{byte}
+use Rattle.meanings.specs.Fields.{unless, or-else, first-below}
 use Rattle.meanings.specs.RuleList.{masks-size, front-rule, behind-rule, from-rule, rules, rule-ok, all-ok, rule-fault, rules-fault}
 use Rattle.meanings.proofs.Firsts.{pass, passes}
 use Rattle.graph.proofs.Faulty.{some-none}

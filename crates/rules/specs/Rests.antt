@@ -7,7 +7,7 @@ use lib.Bits.{bitAnd}
 use lib.Dec.{eqb}
 use lib.ListN.{length, drop}
 use Rattle.std.specs.declared.option.Option.the-variants.{None}
-use Rattle.meanings.specs.Fields.{pair}
+use Rattle.graph.specs.Bytes.{pair}
 use Rattle.meanings.specs.declared.Rule.{Rule}
 use Rattle.meanings.specs.RuleList.{masks, masks-size, front-rule, behind-rule, from-rule, rules, bits, count, start, rules-at, body, header-fault, list-fault}
 

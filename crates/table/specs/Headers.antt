@@ -3,7 +3,7 @@ use mathlib.Core.Path.{_≡_}
 use mathlib.Core.List.{List}
 use Prim.Native.Nat.{ℕ}
 use Rattle.std.specs.declared.option.Option.the-variants.{None}
-use Rattle.meanings.specs.Fields.{byte}
+use Rattle.graph.specs.Bytes.{byte}
 use Rattle.meanings.specs.Table.{count, arrows, header-fault, table-fault}
 
 -- the header has no fault

@@ -1,0 +1,3 @@
+mod Walking
+mod Rounds
+mod Keeping
