@@ -3,32 +3,35 @@ mod again;
 mod text;
 mod words;
 
-use records::refusal::Refusal;
+use records::refusal::RefusalDebug;
 use records::refusal::RefusalDisplay;
-use std::io;
+use records::refusal::RefusalError;
+use std::error::AnyError;
 use std::io::Read;
 
-fn main(rt: LibcRuntime) -> io::Result<()> {
+// How much of standard input is read.
+const MOST: u64 = 65536;
+
+fn run(rt: &LibcRuntime) -> Result<String, AnyError> {
     let heap = rt.alloc();
     let mut bytes = Vec::new(heap);
-    rt.stdin().take(65536).read_to_end(&mut bytes)?;
+    rt.stdin().take(MOST).read_to_end(&mut bytes)?;
     let mut stem = vec![in heap; 0u16; 5120]?;
     let mut cycle = vec![in heap; 0u16; 4096]?;
     let mut out = vec![in heap; 0u8; bytes.len()]?;
-    match again::rewrite(&bytes, &mut stem, &mut cycle, &mut out) {
-        Ok(found) => {
-            let filing = again::view(found, &stem, &cycle);
-            let text = text::explain(heap, filing)?;
-            let count = bytes.len();
-            let same = words::sameness(out == bytes);
-            println!(
-                rt,
-                "{text}Written again, the record is {same} {count} bytes."
-            )
-        }
-        Err(refusal) => {
-            eprintln!(rt, "{refusal}")?;
-            Err(io::Error::from(io::ErrorKind::InvalidData))
+    let found = again::rewrite(&bytes, &mut stem, &mut cycle, &mut out)?;
+    let text = text::explain(heap, again::view(found, &stem, &cycle))?;
+    let count = bytes.len();
+    let same = words::sameness(out == bytes);
+    Ok(format!(heap, "{text}Written again, the record is {same} {count} bytes.\n")?)
+}
+
+fn main(rt: LibcRuntime) -> Result<(), AnyError> {
+    match run(&rt) {
+        Ok(text) => Ok(print!(rt, "{text}")?),
+        Err(e) => {
+            eprintln!(rt, "explain: {e}")?;
+            Err(e)
         }
     }
 }

@@ -5,6 +5,7 @@ ghost use Rattle.std.specs.Results.{errPart};
 ghost use Rattle.std.specs.Vec.{made};
 ghost use Rattle.records.specs.Numbers.{refusal-number, refusal-words};
 ghost use Rattle.records.specs.Tests.{unless};
+use std::error::Error;
 use std::fmt;
 
 #[derive(Clone, Copy, PartialEq, Eq, Debug)]
@@ -62,3 +63,5 @@ pub impl fmt::Display for Refusal as RefusalDisplay {
         write!(f, "{number}: {words}")
     }
 }
+
+pub impl Error for Refusal as RefusalError {}

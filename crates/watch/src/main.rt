@@ -12,6 +12,7 @@ use patterns::watch::Tint;
 use patterns::watch::Told;
 use std::error::AnyError;
 use std::io;
+use std::io::Read;
 
 mod input;
 
@@ -19,6 +20,9 @@ use input::RefusalDebug;
 use input::RefusalDisplay;
 use input::RefusalError;
 use input::parse;
+
+// How much of standard input is read.
+const MOST: u64 = 65536;
 
 fn tint_name(tint: Tint) -> &'static str {
     match tint {
@@ -72,7 +76,7 @@ fn show(
 
 fn run(rt: &LibcRuntime) -> Result<(), AnyError> {
     let heap = rt.alloc();
-    let text = io::read_to_string(heap, rt.stdin())?;
+    let text = io::read_to_string(heap, rt.stdin().take(MOST))?;
     let input = parse(heap, text.as_str())?;
     show(
         rt,
@@ -85,7 +89,7 @@ fn run(rt: &LibcRuntime) -> Result<(), AnyError> {
 fn main(rt: LibcRuntime) -> Result<(), AnyError> {
     let result = run(&rt);
     if let Err(e) = &result {
-        let _ = eprintln!(rt, "{e}");
+        let _ = eprintln!(rt, "watch: {e}");
     }
     result
 }
