@@ -23,7 +23,12 @@ fn run(rt: &LibcRuntime) -> Result<String, AnyError> {
     let text = text::explain(heap, again::view(found, &stem, &cycle))?;
     let count = bytes.len();
     let same = words::sameness(out == bytes);
-    Ok(format!(heap, "{text}Written again, the record is {same} {count} bytes.\n")?)
+    Ok(
+        format!(
+            heap,
+            "{text}Written again, the record is {same} {count} bytes.\n"
+        )?,
+    )
 }
 
 fn main(rt: LibcRuntime) -> Result<(), AnyError> {

@@ -132,7 +132,7 @@ fn list(heap: Global, name: &str, line: &str) -> Result<Option<Vec<Word>>, Alloc
     Ok(Some(list))
 }
 
-pub fn parse(heap: Global, text: &str) -> Result<Input, Refusal> {
+pub(crate) fn parse(heap: Global, text: &str) -> Result<Input, Refusal> {
     let mut lines = text.lines();
     let Some(kind) = kind(lines.next().unwrap_or("")) else {
         return Err(Refusal::Line(1, Expected::Pattern));
