@@ -2,18 +2,23 @@
 ghost use mathlib.Core.Path.{_≡_};
 ghost use Prim.Native.Nat.{_≤_};
 ghost use lib.ListN.{length};
+ghost use Rattle.std.specs.Of.String.{string-bytes};
 ghost use Rattle.std.specs.Results.{isOk, errPart};
 ghost use Rattle.std.specs.Vec.{made};
 ghost use Rattle.records.specs.Layout.{laid-if, stem-of, cycle-of, of-bytes};
 ghost use Rattle.records.specs.Refusals.{accepted, reader-refusal, rewriter-refusal};
 ghost use Rattle.records.specs.Round.{of-record, of-found, Tells};
+ghost use Rattle.explain.specs.Text.{explanation};
+use crate::text::explain;
 use graph::State;
 use records::Found;
 use records::Record;
 use records::refusal::Refusal;
+use std::alloc::AllocError;
+use std::alloc::Global;
 
 // What was found, with the states that the two lists hold.
-pub(crate) fn view<'a>(found: Found, stem: &'a [State], cycle: &'a [State]) -> Record<'a>
+fn view<'a>(found: Found, stem: &'a [State], cycle: &'a [State]) -> Record<'a>
     requires { ⌜ found .stem ≤ length (now stem) ⌝ ∗ ⌜ found .cycle ≤ length (now cycle) ⌝ }
     ensures { λ r. ⌜ of-record r ≡ of-found found (now (stem .entry)) (now (cycle .entry)) ⌝ }
 {
@@ -40,4 +45,20 @@ pub fn rewrite(
     let found = reader::read(bytes, stem, cycle)?;
     writer::write(view(found, stem, cycle), out)?;
     Ok(found)
+}
+
+// Reads a record, writes it again, and tells it in words. The text is that of the record in these bytes.
+pub fn retell(
+    heap: Global,
+    bytes: &[u8],
+    stem: &mut [State],
+    cycle: &mut [State],
+    out: &mut [u8],
+) -> Result<Result<String, AllocError>, Refusal>
+    ensures refused { λ r. ⌜ errPart r ≡ rewriter-refusal (length (now (stem .entry))) (length (now (cycle .entry))) (now (bytes .entry)) (length (now (out .entry))) ⌝ }
+    ensures text { λ r. ⌜ made r (λ t. made t (λ s. string-bytes s ≡ explanation (of-bytes (now (bytes .entry))))) ⌝ }
+    ensures output { λ r. ⌜ now (out .exit) ≡ laid-if (isOk r) (now (bytes .entry)) (now (out .entry)) ⌝ }
+{
+    let found = rewrite(bytes, stem, cycle, out)?;
+    Ok(explain(heap, view(found, stem, cycle)))
 }

@@ -12,31 +12,27 @@ use std::io::Read;
 // How much of standard input is read.
 const MOST: u64 = 65536;
 
-fn run(rt: &LibcRuntime) -> Result<String, AnyError> {
+fn run(rt: &LibcRuntime) -> Result<(), AnyError> {
     let heap = rt.alloc();
     let mut bytes = Vec::new(heap);
     rt.stdin().take(MOST).read_to_end(&mut bytes)?;
     let mut stem = vec![in heap; 0u16; 5120]?;
     let mut cycle = vec![in heap; 0u16; 4096]?;
     let mut out = vec![in heap; 0u8; bytes.len()]?;
-    let found = again::rewrite(&bytes, &mut stem, &mut cycle, &mut out)?;
-    let text = text::explain(heap, again::view(found, &stem, &cycle))?;
+    let text = again::retell(heap, &bytes, &mut stem, &mut cycle, &mut out)??;
     let count = bytes.len();
     let same = words::sameness(out == bytes);
-    Ok(
-        format!(
-            heap,
-            "{text}Written again, the record is {same} {count} bytes.\n"
-        )?,
-    )
+    println!(
+        rt,
+        "{text}Written again, the record is {same} {count} bytes."
+    )?;
+    Ok(())
 }
 
 fn main(rt: LibcRuntime) -> Result<(), AnyError> {
-    match run(&rt) {
-        Ok(text) => Ok(print!(rt, "{text}")?),
-        Err(e) => {
-            eprintln!(rt, "explain: {e}")?;
-            Err(e)
-        }
+    let result = run(&rt);
+    if let Err(e) = &result {
+        let _ = eprintln!(rt, "explain: {e}");
     }
+    result
 }

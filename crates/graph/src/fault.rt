@@ -1,6 +1,7 @@
 // What is wrong with a source.
 ghost use mathlib.Core.Path.{_≡_};
-ghost use Rattle.graph.specs.Faults.{cause-number, raised};
+ghost use Rattle.std.specs.declared.option.Option.the-variants.{Some};
+ghost use Rattle.graph.specs.Faults.{cause-number, cause-words, fault-text, raised};
 use std::fmt;
 
 // The rule that a source breaks.
@@ -30,12 +31,12 @@ impl Cause {
             Cause::Mask => 7,
         }
     }
-}
 
-// The cause as a person reads it.
-pub impl fmt::Display for Cause as CauseDisplay {
-    fn fmt<W: fmt::Write>(&self, f: &mut fmt::Formatter<W>) -> fmt::Result {
-        let words = match self {
+    // The cause as a person reads it.
+    pub fn words(self) -> &'static str
+        ensures { λ r. ⌜ now r ≡ cause-words self ⌝ }
+    {
+        match self {
             Cause::Short => "the bytes end inside a field",
             Cause::MapBit => "a map bit without a field",
             Cause::Range => "a value outside its range",
@@ -43,7 +44,16 @@ pub impl fmt::Display for Cause as CauseDisplay {
             Cause::Target => "a target that is not a state",
             Cause::LeftOver => "bytes left over",
             Cause::Mask => "a rule's mask out of range, or a bit both set and cleared",
-        };
+        }
+    }
+}
+
+// The cause as a person reads it.
+pub impl fmt::Display for Cause as CauseDisplay {
+    ghost shown = { λ c. Some (cause-words c) };
+
+    fn fmt<W: fmt::Write>(&self, f: &mut fmt::Formatter<W>) -> fmt::Result {
+        let words = self.words();
         write!(f, "{words}")
     }
 }
@@ -71,6 +81,8 @@ impl Fault {
 }
 
 pub impl fmt::Display for Fault as FaultDisplay {
+    ghost shown = { λ f. Some (fault-text f) };
+
     fn fmt<W: fmt::Write>(&self, f: &mut fmt::Formatter<W>) -> fmt::Result {
         let number = self.cause.number();
         let place = self.place;

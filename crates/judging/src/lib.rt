@@ -1,6 +1,8 @@
 // A watch over a lasso of words, which tells whether the lasso breaks the path rule.
 ghost use mathlib.Core.Logic.{_↔_};
 ghost use mathlib.Core.Path.{_≡_};
+ghost use lib.Chars.{codes};
+ghost use Rattle.std.specs.declared.option.Option.the-variants.{Some};
 ghost use Prim.Native.Nat.{_<_};
 ghost use lib.Dec.{T};
 ghost use lib.ListN.{length};
@@ -23,6 +25,8 @@ use std::fmt;
 pub struct EmptyLoop;
 
 pub impl fmt::Display for EmptyLoop as EmptyLoopDisplay {
+    ghost shown = { λ _. Some (codes "the loop has no word") };
+
     fn fmt<W: fmt::Write>(&self, f: &mut fmt::Formatter<W>) -> fmt::Result {
         f.write_str("the loop has no word")
     }

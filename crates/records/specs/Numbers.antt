@@ -1,9 +1,10 @@
 -- The numbers that stand for verdicts and refusals, and a refusal's words.
 use mathlib.Core.Bool.{Bool, true, false, cond}
-use mathlib.Core.List.{List}
+use mathlib.Core.List.{List, _++_}
 use Prim.Native.Nat.{ℕ}
 use lib.Chars.{codes}
 use lib.Dec.{eqb}
+use Rattle.std.specs.Written.{decimal}
 use Rattle.std.specs.declared.option.Option.{Option}
 use Rattle.std.specs.declared.option.Option.the-variants.{Some, None}
 use Rattle.records.specs.declared.refusal.Refusal.{Refusal}
@@ -39,3 +40,7 @@ refusal-words Map = codes "a map bit that must not be set, or one that must be a
 refusal-words Value = codes "a value outside its range, or in a field that does not stand"
 refusal-words LeftOver = codes "bytes left over"
 refusal-words OutputShort = codes "the output is too short"
+
+-- a refusal as it is printed
+abbrev pub refusal-text : Refusal → List ℕ
+refusal-text r = decimal (refusal-number r) ++ (codes ": " ++ refusal-words r)

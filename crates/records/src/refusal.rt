@@ -1,9 +1,10 @@
 // Why bytes are not read, or a record is not written.
 ghost use mathlib.Core.Path.{_≡_};
 ghost use mathlib.Core.Bool.{true};
+ghost use Rattle.std.specs.declared.option.Option.the-variants.{Some};
 ghost use Rattle.std.specs.Results.{errPart};
 ghost use Rattle.std.specs.Vec.{made};
-ghost use Rattle.records.specs.Numbers.{refusal-number, refusal-words};
+ghost use Rattle.records.specs.Numbers.{refusal-number, refusal-words, refusal-text};
 ghost use Rattle.records.specs.Tests.{unless};
 use std::error::Error;
 use std::fmt;
@@ -57,6 +58,8 @@ impl Refusal {
 }
 
 pub impl fmt::Display for Refusal as RefusalDisplay {
+    ghost shown = { λ x. Some (refusal-text x) };
+
     fn fmt<W: fmt::Write>(&self, f: &mut fmt::Formatter<W>) -> fmt::Result {
         let number = self.number();
         let words = self.words();

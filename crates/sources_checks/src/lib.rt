@@ -98,7 +98,7 @@ mod tests {
         )
     }
 
-    // Both columns: initial states 0 and 2 of three, no words but zeros.
+    // The initial column alone: states 0 and 2 of three.
     #[test]
     fn initial_column() -> Result<(), Fail> {
         let b = [2, 0, 3, 0, 3, 5, 0, 1, 0, 2, 0, 3, 0, 0, 0, 1, 0, 2];
@@ -109,6 +109,16 @@ mod tests {
             (true, false, true),
         )?;
         check_eq(t.word(1), 0)
+    }
+
+    #[test]
+    fn both_columns() -> Result<(), Fail> {
+        let b = [3, 0, 2, 0, 2, 0, 7, 1, 0, 2, 0, 1, 0, 2, 0, 1, 0, 0];
+        let t = Table::new(&b);
+        check_eq(t.check(), Ok(()))?;
+        check_eq((t.initial(0), t.initial(1)), (false, true))?;
+        check_eq((t.word(0), t.word(1)), (7, 256))?;
+        check_eq((t.arrow(0, 0), t.arrow(1, 0)), (Some(1), Some(0)))
     }
 
     #[test]
@@ -166,6 +176,19 @@ mod tests {
             (Some(0), Some(3), None),
         )?;
         check_eq((r.degree(2), r.degree(4)), (1, 0))
+    }
+
+    // A rule with all four masks, and one that applies everywhere: two arrows from state 1.
+    #[test]
+    fn all_masks() -> Result<(), Fail> {
+        let r = RuleList::new(&[0, 3, 2, 15, 0, 1, 0, 2, 0, 4, 0, 1, 4, 0, 2]);
+        check_eq(r.check(), Ok(()))?;
+        check_eq((r.states(), r.width(), r.initial(0)), (8, 2, true))?;
+        check_eq((r.degree(1), r.degree(3)), (2, 1))?;
+        check_eq(
+            (r.arrow(1, 0), r.arrow(1, 1), r.arrow(3, 0)),
+            (Some(4), Some(3), Some(3)),
+        )
     }
 
     #[test]
