@@ -14,40 +14,40 @@ def there(data, end):
         raise Refusal(31)
 
 
-def demand(ok, number):
+def require(ok, number):
     if not ok:
         raise Refusal(number)
 
 
 def column(data, at, count):
     there(data, at + 2 * count)
-    demand(all(pair(data, at + 2 * k) <= 1023 for k in range(count)), 33)
+    require(all(pair(data, at + 2 * k) <= 1023 for k in range(count)), 33)
     return at + 2 * count
 
 
 def read(data):
     there(data, 1)
-    demand(data[0] < 8, 32)
+    require(data[0] < 8, 32)
     there(data, 2)
-    demand(1 <= data[1] <= 6, 33)
+    require(1 <= data[1] <= 6, 33)
     there(data, 3)
-    demand(data[2] <= 2, 33)
-    demand(bool(data[0] & 1) == (data[1] >= 3) and bool(data[0] & 4) == (data[2] == 2), 32)
+    require(data[2] <= 2, 33)
+    require(bool(data[0] & 1) == (data[1] >= 3) and bool(data[0] & 4) == (data[2] == 2), 32)
     at = 11 if data[0] & 1 else 7
     there(data, at)
     if data[0] & 2:
         there(data, at + 2)
-        demand(pair(data, at) > 0, 33)
+        require(pair(data, at) > 0, 33)
         at += 2
     if data[0] & 4:
         there(data, at + 2)
         stem = pair(data, at)
-        demand(stem <= 5120, 33)
+        require(stem <= 5120, 33)
         there(data, at + 4)
         loop = pair(data, at + 2)
-        demand(1 <= loop <= 4096, 33)
+        require(1 <= loop <= 4096, 33)
         at = column(data, column(data, at + 4, stem), loop)
-    demand(len(data) == at, 34)
+    require(len(data) == at, 34)
 
 
 def some_record():
