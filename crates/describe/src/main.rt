@@ -1,4 +1,6 @@
 // Prints the graph that a control table, or a list of rules, tells.
+#![tactic(auto)]
+
 ghost use Rattle.std.specs.Prelude.{◌≡◌, string_bytes, MatchResult};
 ghost use Rattle.describe.specs.declared.Failure.TheVariants.{Memory, Faulty};
 ghost use Rattle.describe.specs.Answer.{layered, Tells, Fails, asked, columns_asked};

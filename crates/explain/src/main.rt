@@ -1,4 +1,6 @@
 // Explains a record from standard input in plain words, and writes it again to see that the bytes are the same.
+#![tactic(auto)]
+
 mod again;
 mod text;
 mod words;

@@ -1,4 +1,6 @@
 // Control graphs: what a source of one tells, and the faults that a source can have.
+#![tactic(auto)]
+
 pub mod fault;
 pub mod source;
 

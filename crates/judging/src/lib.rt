@@ -1,4 +1,6 @@
 // A watch over a lasso of words, which tells whether the lasso breaks the path rule.
+#![tactic(auto)]
+
 ghost use Rattle.std.specs.Prelude.{◌≡◌, ◌<◌, T, ◌↔◌, length, Some, codes};
 ghost use Rattle.graph.specs.Lassos.{lasso};
 ghost use Rattle.patterns.specs.Chosen.{AnyKeeps};

@@ -1,5 +1,7 @@
 // What each kind of source tells: definitions over its bytes, or over the graph below it (specs/), and the proofs
 // that each keeps the laws of a graph (proofs/). The code that answers by them is in the crates above.
+#![tactic(auto)]
+
 pub mod fields;
 
 // Which of a table's two columns stand; of a table with a fault, none.

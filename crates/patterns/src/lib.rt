@@ -1,4 +1,6 @@
 // The six patterns of linear temporal logic, each with its path rule and its watch.
+#![tactic(auto)]
+
 pub mod always;
 pub mod any;
 pub mod conditional_stable;

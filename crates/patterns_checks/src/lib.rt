@@ -1,4 +1,6 @@
 // The tables of the six watches, row by row.
+#![tactic(auto)]
+
 use graph::Word;
 use judging::{judge, keeps};
 use patterns::any::AnyPattern;

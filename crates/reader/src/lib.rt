@@ -1,4 +1,6 @@
 // The reader: every test first, then stem and loop to the fronts of two lists.
+#![tactic(auto)]
+
 ghost use Rattle.std.specs.Prelude.{◌≡◌, ◌+◌, ◌*◌, ◌<◌, ◌≤◌, length, is_some, is_ok, IfOk, OnOk};
 ghost use Rattle.std.specs.Result.{result_err};
 ghost use Rattle.patterns.specs.Kinds.{kind_of};

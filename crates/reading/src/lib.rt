@@ -1,4 +1,6 @@
 // A layer that sets one bit of each word by a mask, over any source.
+#![tactic(auto)]
+
 ghost use Rattle.std.specs.Prelude.{◌≡◌, ◌<◌};
 ghost use Rattle.graph.specs.Graph.{word_bits};
 ghost use Rattle.meanings.specs.Reading.{reread, reading};

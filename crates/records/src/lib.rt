@@ -1,4 +1,6 @@
 // Records of inspections: what one says, how its bytes are laid out, and why bytes or records are refused.
+#![tactic(auto)]
+
 pub mod refusal;
 pub mod verdict;
 

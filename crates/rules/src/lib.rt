@@ -1,4 +1,6 @@
 // A rule list: a graph whose states are numbers, told by the rules that lead from one to the next.
+#![tactic(auto)]
+
 ghost use Rattle.std.specs.Prelude.{◌≡◌, ◌<◌, ◌≤◌, length, take, IfOk, Some, MatchOption, MatchResult};
 ghost use Rattle.std.specs.Result.{result_err};
 ghost use Rattle.meanings.specs.RuleList.{masks_size, header_fault, rule_ok, rule_fault, rules_fault, list_fault, rule_list};

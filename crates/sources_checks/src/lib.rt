@@ -1,4 +1,6 @@
 // Worked examples of the sources, and one input for each cause of a fault.
+#![tactic(auto)]
+
 #[cfg(test)]
 mod tests {
     use graph::fault::{Cause, Fault};

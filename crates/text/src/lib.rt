@@ -1,4 +1,6 @@
 // A graph as a text that people read, write and compare.
+#![tactic(auto)]
+
 ghost use Rattle.std.specs.Prelude.{◌≡◌, ◌<◌, ◌≤◌, [], ◌∷◌, IfOk, string_bytes, decimal, OnOk};
 ghost use Rattle.text.specs.Adds.{Adds};
 ghost use Rattle.text.specs.GraphText.{hex_digit, word_text, target_text, targets_text, initial_text, state_text, states_text, arrows, columns_names, columns_text, graph_text};

@@ -1,4 +1,6 @@
 // Prints what the watch of a pattern says at each place of a lasso of words, and whether the lasso keeps the pattern.
+#![tactic(auto)]
+
 use graph::Word;
 use judging::{keeps, onward, tint_at};
 use patterns::any::AnyPattern;

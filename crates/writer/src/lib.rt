@@ -1,4 +1,6 @@
 // The writer: a record's bytes at the front of a list.
+#![tactic(auto)]
+
 ghost use Rattle.std.specs.Prelude.{◌≡◌, ◌+◌, ◌*◌, ◌≤◌, true, [], ◌++◌, length, take, is_ok, IfOk, if◌then◌else◌, nat_le};
 ghost use Rattle.std.specs.Result.{result_err};
 ghost use Rattle.records.specs.Layout.{wide, laid, laid_if, front, q_fields, p_fields, length_fields, map_of, states_ok, lasso_ok, valid, encoding};
