@@ -9,8 +9,8 @@ use Rattle.reader.proofs.read.Goals as goal
 pub returns : goal.returns
 returns c =
     let b : List ℕ = c.args.bytes.now in
-    let f = c.in-ok-f.f in
-    let k : Framed b f.heading f.at f.stem f.cycle = c.in-ok-f.ensures.read in
+    let f = c.in_ok-f.f in
+    let k : Framed b f.heading f.at f.stem f.cycle = c.in_ok-f.ensures.read in
     let n : Counted b f.stem f.cycle = k.counted in
     let middle : f.at + 2 * f.stem ≡ cycle_at b = omega (arith, k.from, n.stem_is) in
     let stem_length : f.stem ≡ length (stem_of b) = n.stem_is ∙ sym (length_pairs b (stem_at (byte b 0)) (stem_count b)) in
@@ -30,7 +30,7 @@ returns c =
         stem_fits = search rules;
         cycle_fits = search rules;
       };
-      only = only b _ (λ i. (c.type-inv.bytes i).fits) (sym c.in-ok-f.ensures.refused)
+      only = only b _ (λ i. (c.type_inv.bytes i).fits) (sym c.in_ok-f.ensures.refused)
           (λ i. record { heading = k.heading_is i; stem = stem_front i; cycle = cycle_front i });
       stem = stem_is;
       cycle = cycle_is;

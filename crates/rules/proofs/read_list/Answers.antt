@@ -3,24 +3,24 @@ use Rattle.std.proofs.lemmas.Result.{err_from_is_err_and}
 use Rattle.rules.proofs.ListReads.{fine, rest_short, rules_found, rest_found, list_read, list_fits}
 use Rattle.rules.proofs.read_list.Goals as goal
 
-pub returns-in-err-rest : goal.returns-in-err-rest
-returns-in-err-rest c =
-    let p = err_from_is_err_and c.from-residual-in-err-rest.result c.from-residual-in-err-rest.ensures.1 in
-    simp (p.1, p.2) (rules_found _ _ _ _ _ c.in-ok-h.ensures c.in-err-rest.field-0.0 c.in-err-rest.ensures.fault)
+pub returns-in_err-rest : goal.returns-in_err-rest
+returns-in_err-rest c =
+    let p = err_from_is_err_and c.from_residual-in_err-rest.result c.from_residual-in_err-rest.ensures.1 in
+    simp (p.1, p.2) (rules_found _ _ _ _ _ c.in_ok-h.ensures c.in_err-rest.field-0.0 c.in_err-rest.ensures.fault)
 
-pub overflow-sub-bytes : goal.overflow-sub-bytes
-overflow-sub-bytes c = rest_short _ _ _ _ _ c.in-ok-h.ensures _ c.in-ok-rest.ensures.read.rest_is
+pub overflow_sub-bytes : goal.overflow_sub-bytes
+overflow_sub-bytes c = rest_short _ _ _ _ _ c.in_ok-h.ensures _ c.in_ok-rest.ensures.read.rest_is
 
-pub returns-in-err-test : goal.returns-in-err-test
-returns-in-err-test c =
-    let p = err_from_is_err_and c.from-residual-in-err-test.result c.from-residual-in-err-test.ensures.1 in
-    let r = c.in-ok-rest.ensures in
-    simp (p.1, p.2) (rest_found _ _ _ _ _ c.in-ok-h.ensures _ c.in-err-test.field-0.0 r.fault r.read.rest_is c.in-err-test.ensures.fault)
+pub returns-in_err-test : goal.returns-in_err-test
+returns-in_err-test c =
+    let p = err_from_is_err_and c.from_residual-in_err-test.result c.from_residual-in_err-test.ensures.1 in
+    let r = c.in_ok-rest.ensures in
+    simp (p.1, p.2) (rest_found _ _ _ _ _ c.in_ok-h.ensures _ c.in_err-test.field-0.0 r.fault r.read.rest_is c.in_err-test.ensures.fault)
 
-pub invariant-of-result : goal.invariant-of-result
-invariant-of-result c =
-    let h = c.in-ok-h.ensures in
-    let r = c.in-ok-rest.ensures in
+pub invariant_of-result : goal.invariant_of-result
+invariant_of-result c =
+    let h = c.in_ok-h.ensures in
+    let r = c.in_ok-rest.ensures in
     let f = fine c.args.bytes.now h.no_fault in (
       omega (arith, f.some, h.bits_is),
       (
@@ -34,5 +34,5 @@ invariant-of-result c =
 
 pub returns : goal.returns
 returns c =
-    let r = c.in-ok-rest.ensures in
-    list_read _ _ _ _ _ c.in-ok-h.ensures _ _ r.fault r.read c.in-ok-test.ensures.fault
+    let r = c.in_ok-rest.ensures in
+    list_read _ _ _ _ _ c.in_ok-h.ensures _ _ r.fault r.read c.in_ok-test.ensures.fault

@@ -8,8 +8,8 @@ returns g c =
     let m = g.S.Source.meaning c.args.source.now in
     let all =
     being (ap₂ (λ (n : ℕ) (a : ℕ). codes "states " ++ (decimal n ++ (codes "\narrows " ++ (decimal a ++ (newline ++ (columns_text c.args.columns ++ states_text m m.states))))))
-    c.states.ensures c.count-arrows.ensures)
-    (then c.in-ok-put.ensures (then c.in-ok-put-number.ensures (then c.in-ok-put-2.ensures
-    (then c.in-ok-put-number-2.ensures (then c.in-ok-put-3.ensures
-    (then c.in-ok-put-columns.ensures c.in-ok-put-states.ensures)))))) in
+    c.states.ensures c.count_arrows.ensures)
+    (then c.in_ok-put.ensures (then c.in_ok-put_number.ensures (then c.in_ok-put-2.ensures
+    (then c.in_ok-put_number-2.ensures (then c.in_ok-put-3.ensures
+    (then c.in_ok-put_columns.ensures c.in_ok-put_states.ensures)))))) in
     all.is ∙ ap (λ (l : List ℕ). l ++ graph_text c.args.columns m) c.new-out.ensures.bytes

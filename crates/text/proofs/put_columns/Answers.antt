@@ -3,7 +3,7 @@ use Rattle.text.specs.GraphText.{newline, columns_text}
 use Rattle.text.proofs.Appends.{then, being}
 use Rattle.text.proofs.put_columns.Goals as goal
 
-pub returns-in-ok-put-2 : goal.returns-in-ok-put-2
-returns-in-ok-put-2 c =
-    being (ap (λ (l : List ℕ). l ++ newline) c.columns-line.ensures ∙ sym (ap columns_text c.in-Some.is))
-    (then c.in-ok-put.ensures c.in-ok-put-2.ensures)
+pub returns-in_ok-put-2 : goal.returns-in_ok-put-2
+returns-in_ok-put-2 c =
+    being (ap (λ (l : List ℕ). l ++ newline) c.columns_line.ensures ∙ sym (ap columns_text c.in-Some.is))
+    (then c.in_ok-put.ensures c.in_ok-put-2.ensures)

@@ -9,6 +9,6 @@ returns g c =
     let s = c.args.s in
     being (ap₂ (λ (i : Bool) (w : ℕ). codes "state " ++ (decimal s ++ (initial_text i ++ (codes " word " ++ (word_text w ++ (codes " to" ++ (targets_text m s (m.degree s) ++ newline)))))))
     c.initial.ensures c.word.ensures)
-    (then c.in-ok-put.ensures (then c.in-ok-put-number.ensures (then c.in-ok-put-initial.ensures
-    (then c.in-ok-put-2.ensures (then c.in-ok-put-word.ensures (then c.in-ok-put-3.ensures
-    (then c.in-ok-put-targets.ensures c.in-ok-put-4.ensures)))))))
+    (then c.in_ok-put.ensures (then c.in_ok-put_number.ensures (then c.in_ok-put_initial.ensures
+    (then c.in_ok-put-2.ensures (then c.in_ok-put_word.ensures (then c.in_ok-put-3.ensures
+    (then c.in_ok-put_targets.ensures c.in_ok-put-4.ensures)))))))

@@ -9,4 +9,4 @@ loop-j-preserved g c =
     let s = c.args.s in
     let j = c.loop-j.j in
     being (ap (λ (o : Option ℕ). targets_text m s j ++ target_text o) c.arrow.ensures ∙ ap (targets_text m s) (sym (add-one j)))
-    (then c.loop-j.invariant c.in-ok-put-target.ensures)
+    (then c.loop-j.invariant c.in_ok-put_target.ensures)

@@ -12,13 +12,13 @@ pack-requires-2 c = omega (arith, length_encoding (of_record c.args.filing))
 pub returns : goal.returns
 returns c = record {
   written = written (of_record c.args.filing) c.args.out.now _ _ _ _ _ _ _ _ _ _
-      c.put-front-at.ensures.written c.put-front-at.ensures.end
-      c.put-p-at.ensures.written c.put-p-at.ensures.end
-      c.put-fields-at.ensures.written c.put-fields-at.ensures.end
-      c.put-lengths-at.ensures.written c.put-lengths-at.ensures.end
+      c.put_front-at.ensures.written c.put_front-at.ensures.end
+      c.put_p-at.ensures.written c.put_p-at.ensures.end
+      c.put_fields-at.ensures.written c.put_fields-at.ensures.end
+      c.put_lengths-at.ensures.written c.put_lengths-at.ensures.end
       c.pack.ensures c.pack-2.ensures;
   end = omega (arith, length_encoding (of_record c.args.filing));
 }
 
-pub overflow-add-result : goal.overflow-add-result
-overflow-add-result c = omega (arith, length_encoding (of_record c.args.filing))
+pub overflow_add-result : goal.overflow_add-result
+overflow_add-result c = omega (arith, length_encoding (of_record c.args.filing))

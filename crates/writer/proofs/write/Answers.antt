@@ -10,6 +10,6 @@ returns c = record {
   count = search rules;
   output = search rules;
   back = back (of_record c.args.filing) _
-      (sym c.is-valid.ensures ∙ c.in-ok-unless.ensures.passed)
-      (take_laid _ c.args.out.now _ _ c.put-record.ensures.written c.put-record.ensures.end);
+      (sym c.is_valid.ensures ∙ c.in_ok-unless.ensures.passed)
+      (take_laid _ c.args.out.now _ _ c.put_record.ensures.written c.put_record.ensures.end);
 }

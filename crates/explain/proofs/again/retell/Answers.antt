@@ -15,11 +15,11 @@ returns c =
     let b : List ℕ = c.args.bytes.now in
     let stem : List ℕ = c.args.stem.now in
     let cycle : List ℕ = c.args.cycle.now in
-    let k = c.in-ok-found.ensures in
+    let k = c.in_ok-found.ensures in
     let read = reader_passes (reader_refusal (length stem) (length cycle) b) (unless (leb (length b) (length c.args.out.now)) OutputShort) k.refused in
     let same : of_record c.view.result ≡ of_bytes b =
     c.view.ensures
-    ∙ found_is b c.in-ok-found.found stem cycle _ _ _ _ k.answer
+    ∙ found_is b c.in_ok-found.found stem cycle _ _ _ _ k.answer
     (k.stem ∙ ap (λ (r : Option Refusal). laid_if (accepted r) (stem_of b) stem) read)
     (k.cycle ∙ ap (λ (r : Option Refusal). laid_if (accepted r) (cycle_of b) cycle) read) in
     let Told : Content → Type 0 = λ q. IfOk c.explain.result (λ s. string_bytes s ≡ explanation q) in

@@ -9,13 +9,13 @@ use Rattle.explain.proofs.again.rewrite.Goals as goal
 pub returns : goal.returns
 returns c =
     let b : List ℕ = c.args.bytes.now in
-    let k = c.in-ok-found.ensures in
+    let k = c.in_ok-found.ensures in
     let t : Content = of_record c.view.result in
     let w : Writes t b = record { accepted = ap valid c.view.ensures ∙ k.only.accepted; written = ap encoding c.view.ensures ∙ k.only.written } in
     record {
-      refused = c.in-ok-write.ensures.refused ∙ again b t (length c.args.stem.now) (length c.args.cycle.now) (length c.args.out.now) w k.refused;
+      refused = c.in_ok-write.ensures.refused ∙ again b t (length c.args.stem.now) (length c.args.cycle.now) (length c.args.out.now) w k.refused;
       answer = k.answer;
       stem = k.stem ∙ ap (λ (r : Option Refusal). laid_if (accepted r) (stem_of b) c.args.stem.now) k.refused;
       cycle = k.cycle ∙ ap (λ (r : Option Refusal). laid_if (accepted r) (cycle_of b) c.args.cycle.now) k.refused;
-      output = c.in-ok-write.ensures.output ∙ ap (λ (b : List ℕ). laid b c.args.out.now) w.written;
+      output = c.in_ok-write.ensures.output ∙ ap (λ (b : List ℕ). laid b c.args.out.now) w.written;
     }

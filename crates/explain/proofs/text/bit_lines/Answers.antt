@@ -4,10 +4,10 @@ use Rattle.explain.proofs.text.bit_lines.Goals as goal
 
 pub loop-bit-preserved : goal.loop-bit-preserved
 loop-bit-preserved c =
-    let on = c.as-str.ensures.value ∙ c.in-ok-bit-line.ensures in
-    let off = c.as-str-in-loop-bit.ensures.value ∙ c.in-ok-bit-line-2.ensures in
-    let first = c.in-ok-push-str.ensures.bytes ∙ (λ i. c.loop-bit.invariant i ++ on i) in
-    c.in-ok-push-str-2.ensures.bytes ∙ (λ i. first i ++ off i)
+    let on = c.as_str.ensures.value ∙ c.in_ok-bit_line.ensures in
+    let off = c.as_str-in-loop-bit.ensures.value ∙ c.in_ok-bit_line-2.ensures in
+    let first = c.in_ok-push_str.ensures.bytes ∙ (λ i. c.loop-bit.invariant i ++ on i) in
+    c.in_ok-push_str-2.ensures.bytes ∙ (λ i. first i ++ off i)
     ∙ ap (bit_lines c.args.p) (sym (add-one c.loop-bit.bit))
 
 pub returns : goal.returns

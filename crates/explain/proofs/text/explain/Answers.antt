@@ -5,6 +5,6 @@ use Rattle.explain.proofs.text.explain.Goals as goal
 pub returns : goal.returns
 returns c =
     IfOk-weaker c.format.result _ _
-    (λ s e. e ∙ (λ i. c.preface-preface.ensures i ++ (c.in-ok-kind.ensures i ++ (c.in-ok-p.ensures i ++ (c.in-ok-q.ensures i
-    ++ (c.in-ok-verdict.ensures i ++ (c.in-ok-depth.ensures i ++ c.in-ok-lasso.ensures i)))))))
+    (λ s e. e ∙ (λ i. c.preface-preface.ensures i ++ (c.in_ok-kind.ensures i ++ (c.in_ok-p.ensures i ++ (c.in_ok-q.ensures i
+    ++ (c.in_ok-verdict.ensures i ++ (c.in_ok-depth.ensures i ++ c.in_ok-lasso.ensures i)))))))
     c.format.ensures.ok

@@ -6,8 +6,8 @@ use Rattle.explain.proofs.text.spaced.Goals as goal
 
 pub loop-i-preserved : goal.loop-i-preserved
 loop-i-preserved c =
-    let word = c.as-str.ensures.value ∙ c.in-ok-format.ensures.ok in
-    c.in-ok-push-str.ensures.bytes ∙ (λ i. c.loop-i.invariant i ++ word i)
+    let word = c.as_str.ensures.value ∙ c.in_ok-format.ensures.ok in
+    c.in_ok-push_str.ensures.bytes ∙ (λ i. c.loop-i.invariant i ++ word i)
     ∙ spaced_more c.args.states.now c.loop-i.i c.loop-i-test.true
 
 pub returns : goal.returns

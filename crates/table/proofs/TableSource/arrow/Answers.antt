@@ -5,13 +5,13 @@ use Rattle.meanings.specs.Table.{count, targets_at, by_fault, table}
 use Rattle.meanings.proofs.TableSound.{stands, there}
 use Rattle.table.proofs.TableSource.arrow.Goals as goal
 
-pub overflow-sub-row-end : goal.overflow-sub-row-end
-overflow-sub-row-end c =
+pub overflow_sub-row_end : goal.overflow_sub-row_end
+overflow_sub-row_end c =
     let t = there c.args.self.now.bytes.now c.args.s (omega arith) in
     omega (arith, (t.0.rows c.args.s t.1).0)
 
-pub pair-at-requires : goal.pair-at-requires
-pair-at-requires c =
+pub pair_at-requires : goal.pair_at-requires
+pair_at-requires c =
     let self = c.args.self.now in
     let b = self.bytes.now in
     let l : c.args.s < (table b).states = omega arith in

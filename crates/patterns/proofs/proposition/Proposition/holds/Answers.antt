@@ -3,6 +3,6 @@ use Rattle.patterns.proofs.proposition.Proposition.holds.Goals as goal
 
 pub returns : goal.returns
 returns c = record {
-  0 = c.has.ensures;
+  value = c.has.ensures;
   bits = bits_of c.args.self.on c.args.self.off c.args.word c.has.result c.has.ensures;
 }
