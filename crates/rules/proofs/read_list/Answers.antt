@@ -21,16 +21,14 @@ pub invariant_of-result : goal.invariant_of-result
 invariant_of-result c =
     let h = c.in_ok-h.ensures in
     let r = c.in_ok-rest.ensures in
-    let f = fine c.args.bytes.now h.no_fault in (
-      omega (arith, f.some, h.bits_is),
-      (
-        omega (arith, f.low, h.bits_is),
-        (
-          simp (h.start_is, h.bits_is) f.inside,
-          (omega (arith, f.few, h.count_is), (list_fits _ _ _ _ _ h _ r.fault r.read.rules_are, tt)),
-        ),
-      ),
-    )
+    let f = fine c.args.bytes.now h.no_fault in
+    record {
+      some = omega (arith, f.some, h.bits_is);
+      low = omega (arith, f.low, h.bits_is);
+      inside = simp (h.start_is, h.bits_is) f.inside;
+      few = omega (arith, f.few, h.count_is);
+      fit = list_fits _ _ _ _ _ h _ r.fault r.read.rules_are;
+    }
 
 pub returns : goal.returns
 returns c =
