@@ -7,6 +7,7 @@ use patterns::any::AnyPattern;
 use patterns::kind::Kind;
 use patterns::proposition::Proposition;
 use patterns::watch::{Pattern, Tint, Told};
+#[cfg(test)]
 use std::process::Abort;
 use std::test::Fail;
 
@@ -20,6 +21,7 @@ fn picked(kind: Kind) -> AnyPattern {
 }
 
 // What a watch answers at a mark to the words with neither, with P alone, with Q alone and with both.
+#[cfg(test)]
 fn row(
     rt: &impl Abort,
     kind: Kind,
