@@ -6,7 +6,6 @@ use Rattle.meanings.specs.Reading.{reading}
 use Rattle.meanings.specs.RuleList.{rule_list}
 use Rattle.meanings.specs.Table.{table, columns}
 use Rattle.text.specs.GraphText.{graph_text}
-use Rattle.graph.specs.declared.fault.Fault.{Fault}
 use Rattle.describe.specs.declared.Failure.{Failure}
 use Rattle.describe.specs.declared.Failure.TheVariants.{Usage, Stream, Memory, Faulty}
 use Rattle.describe.specs.declared.Layer.{Layer}

@@ -1,11 +1,11 @@
 -- What the writer makes of a record that was read.
-use Rattle.std.proofs.Common.{◌≡◌, ℕ, ◌-◌, leb, List, [], ◌∷◌, length, take, drop, Some, None, Option, sym, refl, ap, ◌∙◌, arith}
+use Rattle.std.proofs.Common.{◌≡◌, ℕ, leb, List, [], ◌∷◌, length, take, drop, Some, None, Option, sym, refl, ap, ◌∙◌, arith}
 use Rattle.std.proofs.lemmas.List.{take_at}
 use Rattle.records.specs.declared.Found.{Found}
 use Rattle.records.specs.declared.refusal.Refusal.{Refusal}
 use Rattle.records.specs.declared.refusal.Refusal.TheVariants.{Value, OutputShort}
 use Rattle.records.specs.declared.Heading.{Heading}
-use Rattle.records.specs.Layout.{Content, encoding, valid, laid, heading_of, stem_of, cycle_of, of_bytes}
+use Rattle.records.specs.Layout.{Content, laid, heading_of, stem_of, cycle_of, of_bytes}
 use Rattle.records.specs.Refusals.{reader_refusal, writer_refusal, rewriter_refusal}
 use Rattle.records.specs.Round.{of_found, Writes, Tells}
 use Rattle.records.specs.Tests.{first, unless}

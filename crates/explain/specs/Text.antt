@@ -1,5 +1,5 @@
 -- A record as a text for people.
-use Rattle.std.specs.Prelude.{ℕ, zero, suc, ◌/◌, ◌%◌, ◌^◌, Bool, cond, not, ◌&&◌, List, [], ◌∷◌, ◌++◌, length, codes, decimal, ◌==◌, bit_and}
+use Rattle.std.specs.Prelude.{ℕ, zero, suc, ◌/◌, ◌%◌, ◌^◌, Bool, cond, ◌&&◌, List, [], ◌∷◌, ◌++◌, length, codes, decimal, ◌==◌, bit_and}
 use Rattle.patterns.specs.Kinds.{kind_number, has_first}
 use Rattle.patterns.specs.declared.kind.Kind.{Kind}
 use Rattle.patterns.specs.declared.proposition.Proposition.{Proposition}

@@ -2,7 +2,7 @@
 use Rattle.std.proofs.Common.{◌≡◌, ℕ, Some, None, Option, sym, refl, arith}
 use Rattle.std.proofs.lemmas.Bool.{le-ltb}
 use Rattle.graph.specs.declared.fault.Fault.{Fault}
-use Rattle.graph.specs.Graph.{Graph, Sound, faulty}
+use Rattle.graph.specs.Graph.{Sound, faulty}
 
 pub some_none : {A : Type 0} {x : A} → ◌≡◌ {A = Option A} (Some x) None → ⊥
 some_none e = let z : ◌≡◌ {A = ℕ} 0 1 = cc in omega arith

@@ -1,5 +1,5 @@
 -- For the six patterns a lasso that does not break the rule keeps it.
-use Rattle.std.proofs.Common.{ℕ, ◌<◌, Bool, true, false, not, T, ◌⊎◌, ◌↔◌, List, length, inl, inr}
+use Rattle.std.proofs.Common.{ℕ, ◌<◌, Bool, true, false, not, T, ◌↔◌, List, length, inl, inr}
 use mathlib.Core.Logic.{∥∥₁_elim}
 use lib.Dec.{T_prop}
 use Rattle.graph.specs.Lassos.{lasso}

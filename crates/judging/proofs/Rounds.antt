@@ -1,5 +1,5 @@
 -- What a watch meets on twelve turns of a loop, after four, tells whether it rejects the lasso.
-use Rattle.std.proofs.Common.{◌≡◌, ℕ, zero, suc, ◌+◌, ◌-◌, ◌*◌, ◌%◌, ◌<◌, ◌≤◌, Bool, true, false, cond, not, ◌&&◌, ◌||◌, T, ltb, ◌⊎◌, ◌↔◌, List, length, get_or, sym, refl, ap, ◌∙◌, subst, ap₂, inl, inr, add-zero, add-suc, mul-le-mul_right, mul_assoc, add-mul, le-mul_of_pos_right, arith}
+use Rattle.std.proofs.Common.{◌≡◌, ℕ, zero, suc, ◌+◌, ◌-◌, ◌*◌, ◌%◌, ◌<◌, ◌≤◌, Bool, true, false, cond, not, ◌&&◌, ◌||◌, T, ◌↔◌, List, length, get_or, sym, refl, ap, ◌∙◌, subst, ap₂, inl, inr, add-zero, add-suc, mul-le-mul_right, mul_assoc, add-mul, le-mul_of_pos_right, arith}
 use native.Mathlib.Nat.{mul-add-mod_self_right}
 use Rattle.std.proofs.lemmas.Bool.{lt-ltb, or_cases, or_left, or_right}
 use Rattle.graph.specs.Lassos.{lasso}

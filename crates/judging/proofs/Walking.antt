@@ -1,5 +1,5 @@
 -- Stretches of words put together.
-use Rattle.std.proofs.Common.{◌≡◌, ℕ, zero, suc, ◌+◌, ◌-◌, ◌*◌, ◌%◌, ◌<◌, ◌≤◌, Bool, true, false, cond, ◌||◌, ◌⊎◌, List, length, get_or, sym, refl, ap, ◌∙◌, subst, ap₂, inl, inr, add-zero, add-suc, add-mul, one-mul, add-one, arith}
+use Rattle.std.proofs.Common.{◌≡◌, ℕ, zero, suc, ◌+◌, ◌*◌, ◌%◌, ◌<◌, List, length, get_or, sym, refl, ap, ◌∙◌, ap₂, add-zero, add-suc, add-mul, one-mul, add-one, arith}
 use Rattle.std.proofs.lemmas.Nat.{mod-mul-add}
 use Rattle.patterns.specs.declared.watch.Told.{Told}
 use Rattle.patterns.specs.declared.watch.Tint.{Tint}

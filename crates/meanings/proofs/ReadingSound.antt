@@ -1,5 +1,5 @@
 -- A reading of a graph that keeps the laws keeps them.
-use Rattle.std.proofs.Common.{◌≡◌, ℕ, Bool, true, false, cond, ltb, is_some, Some, None, Option, sym, refl, ap, ◌∙◌, arith}
+use Rattle.std.proofs.Common.{ℕ, Bool, true, false, cond, ltb, Some, None, Option, sym, refl, ap, arith}
 use Rattle.std.proofs.lemmas.Bool.{le-ltb}
 use Rattle.graph.specs.declared.fault.Cause.TheVariants.{Range}
 use Rattle.graph.specs.declared.fault.Fault.{Fault}

@@ -1,8 +1,8 @@
 -- The graph of a list of rules keeps the laws of a graph.
-use Rattle.std.proofs.Common.{◌≡◌, ℕ, zero, suc, ◌^◌, ◌<◌, ◌≤◌, Bool, true, false, cond, ◌&&◌, eqb, ltb, ◌⊎◌, List, [], ◌∷◌, length, is_some, Some, None, Option, sym, refl, ap, ◌∙◌, inl, inr, arith, pow_mono}
+use Rattle.std.proofs.Common.{◌≡◌, ℕ, zero, suc, ◌^◌, ◌<◌, ◌≤◌, true, false, cond, ◌&&◌, eqb, ltb, List, [], ◌∷◌, length, is_some, Some, None, sym, ◌∙◌, inl, inr, arith, pow_mono}
 use lib.Bits.{bit_and, bit_or, bit_xor, and_le_l, or_lt}
 use Rattle.std.proofs.lemmas.Bool.{and_parts, cond-true, cond-false, cases_lt, cases_eq, ltb-true, lt-ltb, le-ltb, eq-eqb, ne_eqb}
-use Rattle.graph.specs.Graph.{Graph, Sound}
+use Rattle.graph.specs.Graph.{Sound}
 use Rattle.graph.proofs.Faulty.{some_none}
 use Rattle.meanings.specs.declared.Rule.{Rule}
 use Rattle.meanings.specs.RuleList.{rule_ok, all_ok, applies, moved, targets, nth, resting, ruled}

@@ -1,12 +1,12 @@
 -- What holds of a table without a fault, and that a table keeps the laws of a graph.
-use Rattle.std.proofs.Common.{◌≡◌, ℕ, ◌+◌, ◌-◌, ◌*◌, ◌<◌, ◌≤◌, Bool, true, false, cond, ◌&&◌, ◌||◌, eqb, ltb, leb, ◌⊎◌, List, [], ◌∷◌, length, is_some, Some, None, Option, sym, refl, ◌∙◌, subst, inl, inr, arith}
+use Rattle.std.proofs.Common.{◌≡◌, ℕ, ◌+◌, ◌-◌, ◌*◌, ◌<◌, ◌≤◌, true, false, cond, ◌&&◌, ◌||◌, eqb, ltb, leb, List, [], ◌∷◌, length, is_some, Some, None, Option, sym, refl, ◌∙◌, subst, inl, inr, arith}
 use Rattle.std.proofs.lemmas.Bool.{and_parts, and_from, and_left, and_right, cond-true, cond-false, cases_lt, ltb-true, leb-true, eqb-true, lt-ltb, le-ltb}
 use Rattle.graph.specs.declared.fault.Cause.TheVariants.{MapBit, Range, RowEnd, Target, LeftOver}
 use Rattle.graph.specs.declared.fault.Fault.{Fault}
-use Rattle.graph.specs.Graph.{Graph, Sound, faulty}
+use Rattle.graph.specs.Graph.{Sound}
 use Rattle.graph.proofs.Faulty.{faulty_sound, some_none}
 use Rattle.graph.specs.Bytes.{byte}
-use Rattle.meanings.specs.Fields.{unless, reach, first, first_below}
+use Rattle.meanings.specs.Fields.{unless, reach, first_below}
 use Rattle.meanings.specs.Table.{count, arrows, row, before, target, row_ok, row_fault, target_fault, table_end, targets_at, rows_at, header_fault, columns_fault, rows_fault, targets_fault, table_fault, word_of, initial_of, whole, by_fault, table}
 use Rattle.meanings.proofs.Firsts.{pass, passes, none_below}
 

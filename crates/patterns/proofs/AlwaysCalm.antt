@@ -1,11 +1,10 @@
 -- A watch that is always calm does not show the law.
-use Rattle.std.proofs.Common.{◌≡◌, ℕ, zero, suc, ◌<◌, Bool, true, false, ◌⊎◌, List, [], ◌∷◌, refl, ap, inl, inr, arith}
+use Rattle.std.proofs.Common.{◌≡◌, ℕ, zero, suc, Bool, false, [], ◌∷◌, refl, ap, inl, inr, arith}
 use Rattle.patterns.specs.Rules.{KeepsEventual}
 use Rattle.patterns.specs.Tables.{eventual_row}
 use Rattle.patterns.specs.Watch.{Lawful, Rejects, fed, onward}
 use Rattle.graph.specs.Lassos.{lasso}
-use Rattle.patterns.specs.declared.watch.Told.{Told}
-use Rattle.patterns.specs.declared.watch.Told.TheVariants.{Mark, Broken}
+use Rattle.patterns.specs.declared.watch.Told.TheVariants.{Mark}
 use Rattle.patterns.specs.declared.watch.Tint.TheVariants.{Calm}
 use Rattle.patterns.specs.Watching.{clash}
 

@@ -1,5 +1,5 @@
 -- The test of a proposition, bit by bit.
-use Rattle.std.proofs.Common.{◌≡◌, ℕ, zero, suc, ◌+◌, ◌*◌, ◌/◌, ◌%◌, ◌^◌, ◌<◌, ◌≤◌, min, Bool, true, false, ◌&&◌, T, eqb, ◌↔◌, sym, refl, ap, ◌∙◌, subst, mod-lt, div-one, arith}
+use Rattle.std.proofs.Common.{◌≡◌, ℕ, zero, suc, ◌+◌, ◌*◌, ◌/◌, ◌%◌, ◌^◌, ◌<◌, min, Bool, true, false, T, eqb, ◌↔◌, sym, refl, ap, ◌∙◌, subst, mod-lt, div-one, arith}
 use native.Mathlib.Nat.{div-add-mod, zero-div}
 use lib.Arith.{bin_ind}
 use lib.Bits.{bit_and, and_step, and_zero_r}

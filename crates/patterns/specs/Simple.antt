@@ -1,12 +1,10 @@
 -- The grounds of the three watches with one mark.
-use Rattle.std.specs.Prelude.{◌≡◌, ℕ, zero, suc, ◌<◌, ◌≤◌, Bool, true, false, ◌⊎◌, refl}
-use Rattle.std.proofs.Common.{inl, inr, sym, ◌∙◌, ap, subst, arith}
+use Rattle.std.specs.Prelude.{◌≡◌, ℕ, suc, ◌<◌, Bool, true, false, refl}
+use Rattle.std.proofs.Common.{inl, inr, arith}
 use Rattle.patterns.specs.Rules.{At, KeepsAlways, KeepsEventual, KeepsUntil}
 use Rattle.patterns.specs.Tables.{always_row, eventual_row, until_row}
-use Rattle.patterns.specs.declared.watch.Told.{Told}
-use Rattle.patterns.specs.declared.watch.Tint.{Tint}
-use Rattle.patterns.specs.declared.watch.Tint.TheVariants.{Calm, Sore, Relief}
-use Rattle.patterns.specs.Settle.{tell, sides, one_more}
+use Rattle.patterns.specs.declared.watch.Tint.TheVariants.{Calm, Sore}
+use Rattle.patterns.specs.Settle.{sides, one_more}
 use Rattle.patterns.specs.Watching.{Grounds, Means, clash}
 
 module _ (q : ℕ → Bool) (w : ℕ → ℕ) where

@@ -4,7 +4,7 @@ use Rattle.graph.specs.Lassos.{lasso}
 use Rattle.patterns.specs.declared.watch.Told.{Told}
 use Rattle.patterns.specs.declared.watch.Told.TheVariants.{Kept, Broken, Mark}
 use Rattle.patterns.specs.declared.watch.Tint.{Tint}
-use Rattle.patterns.specs.declared.watch.Tint.TheVariants.{Calm, Sore, Relief}
+use Rattle.patterns.specs.declared.watch.Tint.TheVariants.{Sore, Relief}
 
 -- the watch stops at kept and at broken, and else takes the next word
 abbrev pub onward : (ℕ → ℕ → Told) → Told → ℕ → Told

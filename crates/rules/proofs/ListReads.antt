@@ -1,8 +1,8 @@
 -- A rule list as it was read is the one that the layout tells.
-use Rattle.std.proofs.Common.{◌≡◌, ℕ, zero, suc, ◌-◌, ◌^◌, ◌<◌, ◌≤◌, true, ◌&&◌, eqb, ltb, leb, List, [], ◌∷◌, length, take, drop, Some, None, Option, sym, refl, ap, ◌∙◌, subst, arith, length-drop}
+use Rattle.std.proofs.Common.{◌≡◌, ℕ, zero, suc, ◌-◌, ◌^◌, ◌<◌, ◌≤◌, true, ◌&&◌, ltb, leb, List, [], ◌∷◌, length, take, drop, Some, None, sym, ap, ◌∙◌, arith, length-drop}
 use Rattle.std.proofs.lemmas.List.{take_rest}
 use Rattle.std.proofs.lemmas.Bool.{and_parts, leb-true, ltb-true}
-use Rattle.graph.specs.declared.fault.Cause.TheVariants.{MapBit, Range, LeftOver}
+use Rattle.graph.specs.declared.fault.Cause.TheVariants.{MapBit, Range}
 use Rattle.graph.specs.declared.fault.Fault.{Fault}
 use Rattle.meanings.specs.declared.Rule.{Rule}
 use Rattle.graph.specs.Bytes.{byte}

@@ -1,10 +1,10 @@
 -- Masks read one behind the other are those of the layout.
-use Rattle.std.proofs.Common.{◌≡◌, ℕ, suc, ◌+◌, ◌*◌, ◌<◌, ◌≤◌, Bool, true, false, cond, List, length, drop, sym, refl, ap, ◌∙◌, add-zero, arith, length-drop}
+use Rattle.std.proofs.Common.{◌≡◌, ℕ, suc, ◌+◌, ◌*◌, ◌<◌, ◌≤◌, Bool, true, false, cond, List, length, drop, refl, ap, ◌∙◌, add-zero, arith, length-drop}
 use Rattle.std.proofs.lemmas.List.{drop-drop, get_or-drop}
 use Rattle.meanings.specs.declared.Rule.{Rule}
-use Rattle.graph.specs.Bytes.{byte, pair}
+use Rattle.graph.specs.Bytes.{pair}
 use Rattle.meanings.specs.RuleList.{stands, masks_before, mask, masks}
-use Rattle.rules.specs.Rests.{mask_size, MaskRead, MasksRead}
+use Rattle.rules.specs.Rests.{mask_size, MaskRead}
 
 -- the masks before mask k have been read off the list l
 pub record Reached (map k : ℕ) (l rest : List ℕ) : Type 0 where

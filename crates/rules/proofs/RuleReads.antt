@@ -1,12 +1,12 @@
 -- A rule read off the front of the bytes, and rules one behind the other.
-use Rattle.std.proofs.Common.{◌≡◌, ℕ, zero, suc, ◌+◌, ◌-◌, ◌<◌, ◌≤◌, Bool, true, false, cond, ◌&&◌, ltb, leb, List, [], ◌∷◌, ◌++◌, length, take, drop, Some, None, Option, sym, refl, ap, ◌∙◌, subst, add-one, arith, length-drop}
+use Rattle.std.proofs.Common.{◌≡◌, ℕ, zero, suc, ◌+◌, ◌-◌, ◌<◌, ◌≤◌, true, ltb, leb, List, [], ◌∷◌, ◌++◌, length, take, drop, Some, None, Option, sym, refl, ap, ◌∙◌, subst, add-one, arith, length-drop}
 use Rattle.std.proofs.lemmas.List.{take_rest}
 use Rattle.std.proofs.lemmas.Bool.{le-leb, lt-ltb, and_from, and_parts}
 use Rattle.graph.specs.declared.fault.Cause.TheVariants.{Short, MapBit, Mask}
 use Rattle.graph.specs.declared.fault.Fault.{Fault}
 use Rattle.meanings.specs.declared.Rule.{Rule}
 use Rattle.graph.specs.Bytes.{byte}
-use Rattle.meanings.specs.Fields.{unless, or_else, first_below}
+use Rattle.meanings.specs.Fields.{unless, or_else}
 use Rattle.meanings.specs.RuleList.{masks_size, front_rule, behind_rule, from_rule, rules, rule_ok, all_ok, rule_fault, rules_fault}
 use Rattle.meanings.proofs.Firsts.{pass, passes}
 use Rattle.graph.proofs.Faulty.{some_none}

@@ -1,4 +1,4 @@
-use Rattle.std.proofs.Common.{◌≡◌, ◌-◌, Bool, length, Some, ap, ◌∙◌, rules}
+use Rattle.std.proofs.Common.{◌-◌, Bool, length, Some, ap, ◌∙◌, rules}
 use Rattle.std.specs.Result.{result_err}
 use Rattle.std.proofs.lemmas.Result.{err_from_is_err_and}
 use Rattle.graph.specs.declared.fault.Cause.TheVariants.{Mask}

@@ -1,4 +1,4 @@
-use Rattle.std.proofs.Common.{◌≡◌, ◌+◌, sym, ap, ◌∙◌, add-one, arith}
+use Rattle.std.proofs.Common.{ap, add-one, arith}
 use Rattle.text.specs.GraphText.{arrows}
 use Rattle.text.proofs.count_arrows.Goals as goal
 

@@ -1,4 +1,4 @@
-use Rattle.std.proofs.Common.{◌≡◌, ℕ, List, ◌++◌, codes, decimal, ap, ◌∙◌, ap₂}
+use Rattle.std.proofs.Common.{ℕ, List, ◌++◌, codes, decimal, ap, ◌∙◌, ap₂}
 use Rattle.text.specs.GraphText.{newline, columns_text, states_text, graph_text}
 use Rattle.text.proofs.Appends.{then, being}
 use Rattle.text.proofs.describe.Goals as goal
