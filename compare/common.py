@@ -4,11 +4,11 @@ import random
 import subprocess
 import sys
 
-BIN = os.path.join(os.path.dirname(os.path.abspath(__file__)), "..", "target", "bin")
+CRATES = os.path.join(os.path.dirname(os.path.abspath(__file__)), "..", "crates")
 
 
 def run(name, *words, stdin):
-    done = subprocess.run([os.path.join(BIN, name), *words], input=stdin, capture_output=True)
+    done = subprocess.run([os.path.join(CRATES, name, "out", name), *words], input=stdin, capture_output=True)
     return done.returncode, done.stdout.decode(), done.stderr.decode()
 
 
