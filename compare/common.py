@@ -9,7 +9,10 @@ CRATES = os.path.join(os.path.dirname(os.path.abspath(__file__)), "..", "crates"
 
 def run(name, *words, stdin):
     done = subprocess.run([os.path.join(CRATES, name, "out", name), *words], input=stdin, capture_output=True)
-    return done.returncode, done.stdout.decode(), done.stderr.decode()
+    said = done.stderr.decode()
+    if said.count("\n") > 1:
+        said = "several lines: " + said
+    return done.returncode, done.stdout.decode(), said
 
 
 def pair(data, at):

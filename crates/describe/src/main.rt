@@ -13,6 +13,7 @@ use reading::Reading;
 use rules::RuleList;
 use std::alloc::{AllocError, Global};
 use std::io::Read;
+use std::process::ExitCode;
 use std::{env, fmt, io};
 use table::Table;
 
@@ -156,12 +157,12 @@ fn run(rt: &HostRuntime) -> Result<(), Failure> {
     Ok(())
 }
 
-fn main(rt: HostRuntime) -> io::Result<()> {
+fn main(rt: HostRuntime) -> ExitCode {
     match run(&rt) {
-        Ok(()) => Ok(()),
+        Ok(()) => ExitCode::SUCCESS,
         Err(failure) => {
-            eprintln!(rt; "describe: {failure}")?;
-            Err(io::Error::from(io::ErrorKind::InvalidInput))
+            let _ = eprintln!(rt; "describe: {failure}");
+            ExitCode::FAILURE
         }
     }
 }

@@ -6,6 +6,7 @@ mod text;
 mod words;
 
 use std::io::Read;
+use std::process::ExitCode;
 
 // How much of standard input is read.
 const MOST: u64 = 65536;
@@ -24,10 +25,12 @@ fn run(rt: &HostRuntime) -> anyhow::Result<()> {
     Ok(())
 }
 
-fn main(rt: HostRuntime) -> anyhow::Result<()> {
-    let result = run(&rt);
-    if let Err(e) = &result {
-        let _ = eprintln!(rt; "explain: {e}");
+fn main(rt: HostRuntime) -> ExitCode {
+    match run(&rt) {
+        Ok(()) => ExitCode::SUCCESS,
+        Err(e) => {
+            let _ = eprintln!(rt; "explain: {e}");
+            ExitCode::FAILURE
+        }
     }
-    result
 }

@@ -7,6 +7,7 @@ use patterns::any::AnyPattern;
 use patterns::watch::{Tint, Told};
 use std::io;
 use std::io::Read;
+use std::process::ExitCode;
 
 mod input;
 
@@ -77,10 +78,12 @@ fn run(rt: &HostRuntime) -> anyhow::Result<()> {
     )
 }
 
-fn main(rt: HostRuntime) -> anyhow::Result<()> {
-    let result = run(&rt);
-    if let Err(e) = &result {
-        let _ = eprintln!(rt; "watch: {e}");
+fn main(rt: HostRuntime) -> ExitCode {
+    match run(&rt) {
+        Ok(()) => ExitCode::SUCCESS,
+        Err(e) => {
+            let _ = eprintln!(rt; "watch: {e}");
+            ExitCode::FAILURE
+        }
     }
-    result
 }
