@@ -24,9 +24,9 @@ pub record Writes (c : Content) (b : List ℕ) : Type 0 where
   pub written : encoding c ≡ b
 
 -- what was found is this record, and each list is long enough to hold its part
-pub record Tells (f : Found) (stem-room cycle-room : ℕ) (c : Content) : Type 0 where
+pub record Tells (f : Found) (stem_room cycle_room : ℕ) (c : Content) : Type 0 where
   pub heading_is : f.heading ≡ c.heading
   pub stem_is : f.stem ≡ length c.stem
   pub cycle_is : f.cycle ≡ length c.cycle
-  pub stem_fits : f.stem ≤ stem-room
-  pub cycle_fits : f.cycle ≤ cycle-room
+  pub stem_fits : f.stem ≤ stem_room
+  pub cycle_fits : f.cycle ≤ cycle_room
