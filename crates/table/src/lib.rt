@@ -1,35 +1,25 @@
 // A control table: the bytes of a graph in a fixed layout.
 #![tactic(auto)]
 
-ghost use Rattle.std.specs.Prelude.{◌≡◌, ◌+◌, ◌-◌, ◌^◌, ◌<◌, ◌≤◌, length, Some, None, MatchOption, Ok, Err, OnOk, IfOk, IfErr, ℕ, if◌then◌else◌, nat_lt};
+ghost use Rattle.std.specs.Prelude.{◌≡◌, ◌+◌, ◌-◌, ◌^◌, ◌<◌, ◌≤◌, length, Some, None, OnSome, IfSome, IfNone, IfOk, if◌then◌else◌, nat_lt};
 ghost use Rattle.std.specs.Result.{result_err, ForOk};
 ghost use Rattle.meanings.specs.Fields.{unless};
-ghost use Rattle.graph.specs.Bytes.{byte, pair};
+ghost use Rattle.graph.specs.Bytes.{byte};
 ghost use Rattle.meanings.specs.Table.{initials_at, rows_at, targets_at, table_end, count, arrows, header_fault, columns_fault, rows_fault, targets_fault, row_fault, target_fault, initial_of, word_of, row, before, target, table_fault, table, columns_by, columns};
-ghost use Rattle.table.specs.Tests.{FirstFault};
+ghost use Rattle.table.specs.Tests.{IsFirstFault};
 ghost use Rattle.meanings.proofs.TableSound.{table_sound};
 
 use graph::fault::{Cause, Fault};
+use graph::fields::pair_at;
 use graph::source::Source;
 use graph::{State, Word};
 use meanings::Columns;
 use meanings::fields::{reach_to, test};
 
-// The two bytes from `at` on as a number, the high byte first. A byte past the end reads as 0.
-fn pair_at(bytes: &[u8], at: usize) -> u16
-    ensures { result ≡ pair bytes.now at }
-{
-    match bytes.get(at..) {
-        Some([high, low, ..]) => u16::from_be_bytes([*high, *low]),
-        Some([high]) => u16::from_be_bytes([*high, 0]),
-        _ => 0,
-    }
-}
-
 // Tests the places below `n` in order, up to the first that fails.
 fn test_each<F: Fn(u16) -> Result<(), Fault>>(n: u16, test_at: F) -> Result<(), Fault>
     requires { F.IsAlwaysCallable test_at }
-    ensures { FirstFault (F.post test_at) n result }
+    ensures { IsFirstFault (F.post test_at) n result }
 {
     for k in 0..n {
         test_at(k)?;
@@ -224,7 +214,7 @@ impl<'a> Layout<'a> {
         }
     }
 
-    // The rows of a table rise.
+    // The rows of a tested table rise, so that nothing is cut off.
     fn degree(&self, s: State) -> u16
         ensures { result ≡ row self.now.bytes.now s - before self.now.bytes.now s }
     {
@@ -232,7 +222,10 @@ impl<'a> Layout<'a> {
     }
 
     fn arrow(&self, s: State, j: u16) -> Option<State>
-        ensures { result ≡ (if nat_lt j (row self.now.bytes.now s - before self.now.bytes.now s) then Some (target self.now.bytes.now (before self.now.bytes.now s + j)) else None) }
+        ensures { result
+            ≡ (if nat_lt j (row self.now.bytes.now s - before self.now.bytes.now s)
+            then Some (target self.now.bytes.now (before self.now.bytes.now s + j))
+            else None) }
     {
         let start = self.row_start(s);
         if j < self.row_end(s).saturating_sub(start) {
@@ -267,16 +260,16 @@ impl<'a> Table<'a> {
     pub fn columns(&self) -> Columns
         ensures { result ≡ columns self.now.bytes.now }
     {
-        let none = Columns {
-            words: false,
-            initials: false,
-        };
-        self.layout.map_or(none, |layout| layout.columns)
+        self.layout
+            .map_or(Columns::default(), |layout| layout.columns)
     }
 
     // The layout, if the state is there.
     fn holding(&self, s: State) -> Option<Layout<'a>>
-        ensures { MatchOption result ((table self.now.bytes.now).states ≤ s) (λ l. (l.bytes.now ≡ self.now.bytes.now) × (table_fault self.now.bytes.now ≡ None) × (s < count self.now.bytes.now)) }
+        ensures missing { IfNone result ((table self.now.bytes.now).states ≤ s) }
+        ensures there { OnSome result (s < count self.now.bytes.now) }
+        ensures tested { OnSome result (table_fault self.now.bytes.now ≡ None) }
+        ensures same_bytes { IfSome result (λ l. l.bytes.now ≡ self.now.bytes.now) }
     {
         match self.layout {
             Ok(layout) if s < layout.states => Some(layout),
@@ -287,8 +280,6 @@ impl<'a> Table<'a> {
 
 impl Source for Table<'_> {
     ghost meaning = { λ t. table t.bytes.now };
-
-    ghost sound = { λ t. table_sound t.bytes.now };
 
     fn check(&self) -> Result<(), Fault> {
         self.layout.map(|_| ())
@@ -317,4 +308,6 @@ impl Source for Table<'_> {
     fn arrow(&self, s: State, j: u16) -> Option<State> {
         self.holding(s)?.arrow(s, j)
     }
+
+    ghost sound = { λ t. table_sound t.bytes.now };
 }
