@@ -1,11 +1,12 @@
 // A control table: the bytes of a graph in a fixed layout.
 #![tactic(auto)]
 
-ghost use Rattle.std.specs.Prelude.{◌≡◌, ◌+◌, ◌-◌, ◌^◌, ◌<◌, ◌≤◌, length, Some, None, OnSome, IfSome, IfNone, IfOk, if◌then◌else◌, nat_lt};
+ghost use Rattle.std.specs.Prelude.{◌≡◌, ◌+◌, ◌-◌, ◌^◌, ◌<◌, ◌≤◌, length, Some, None, OnSome, IfSome, IfNone, IfOk, if◌then◌else◌, ◌==◌, nat_lt};
 ghost use Rattle.std.specs.Result.{result_err, ForOk};
 ghost use Rattle.meanings.specs.Fields.{unless};
 ghost use Rattle.graph.specs.Bytes.{byte};
-ghost use Rattle.meanings.specs.Table.{initials_at, rows_at, targets_at, table_end, count, arrows, header_fault, columns_fault, rows_fault, targets_fault, row_fault, target_fault, initial_of, word_of, row, before, target, table_fault, table, columns_by, columns};
+ghost use Rattle.meanings.specs.Table.{count, arrows, header_fault, columns_fault, rows_fault, targets_fault, row_fault, target_fault, initial_of, word_of, row, before, target, table_fault, table, columns_by, columns};
+ghost use Rattle.table.specs.Offsets.{initials_offset, rows_offset, targets_offset, end_offset};
 ghost use Rattle.table.specs.Tests.{IsFirstFault};
 ghost use Rattle.meanings.proofs.TableSound.{table_sound};
 
@@ -74,7 +75,7 @@ impl<'a> Layout<'a> {
     }
 
     fn initials_at(&self) -> usize
-        ensures at { result ≡ initials_at (byte self.now.bytes.now 0) (count self.now.bytes.now) }
+        ensures at { result ≡ initials_offset self.now.bytes.now }
         ensures bound { result < 2 ^ 18 }
     {
         if self.columns.words {
@@ -85,7 +86,7 @@ impl<'a> Layout<'a> {
     }
 
     fn rows_at(&self) -> usize
-        ensures at { result ≡ rows_at (byte self.now.bytes.now 0) (count self.now.bytes.now) }
+        ensures at { result ≡ rows_offset self.now.bytes.now }
         ensures bound { result < 2 ^ 19 }
     {
         let at = self.initials_at();
@@ -97,14 +98,14 @@ impl<'a> Layout<'a> {
     }
 
     fn targets_at(&self) -> usize
-        ensures at { result ≡ targets_at (byte self.now.bytes.now 0) (count self.now.bytes.now) }
+        ensures at { result ≡ targets_offset self.now.bytes.now }
         ensures bound { result < 2 ^ 20 }
     {
         self.rows_at() + 2 * self.states as usize
     }
 
     fn end(&self) -> usize
-        ensures { result ≡ table_end (byte self.now.bytes.now 0) (count self.now.bytes.now) (arrows self.now.bytes.now) }
+        ensures { result ≡ end_offset self.now.bytes.now }
     {
         self.targets_at() + 2 * self.width as usize
     }
@@ -170,13 +171,21 @@ impl<'a> Layout<'a> {
         )
     }
 
+    // Nothing lies behind the targets.
+    fn test_length(&self) -> Result<(), Fault>
+        ensures { let end = end_offset self.now.bytes.now in
+            result_err result ≡ unless (length self.now.bytes.now == end) Cause.LeftOver end }
+    {
+        let end = self.end();
+        test(self.bytes.len() == end, Cause::LeftOver, end)
+    }
+
     fn test_targets(&self) -> Result<(), Fault>
         ensures { result_err result ≡ targets_fault self.now.bytes.now }
     {
-        let end = self.end();
-        reach_to(self.bytes, end)?;
+        reach_to(self.bytes, self.end())?;
         test_each(self.width, |k| self.test_target(k))?;
-        test(self.bytes.len() == end, Cause::LeftOver, end)
+        self.test_length()
     }
 
     // The layout of bytes that pass every test.
