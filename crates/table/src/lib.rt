@@ -40,7 +40,7 @@ fn read_columns(map: u8) -> Result<Columns, Fault>
     })
 }
 
-// Bytes whose header has no fault, and what it says of where the columns lie.
+// Bytes whose header has no fault, and what it says: which columns stand, and how many states and arrows there are.
 #[derive(Clone, Copy)]
 struct Layout<'a> {
     bytes: &'a [u8],
@@ -74,6 +74,7 @@ impl<'a> Layout<'a> {
         })
     }
 
+    // The columns come one after the other: words, initial states, row ends and targets.
     fn initials_at(&self) -> usize
         ensures at { result ≡ initials_offset self.now.bytes.now }
         ensures bound { result < 2 ^ 18 }
@@ -200,6 +201,7 @@ impl<'a> Layout<'a> {
         Ok(layout)
     }
 
+    // What the columns tell of `s`, be it a state or not.
     fn initial(&self, s: State) -> bool
         ensures { result ≡ initial_of self.now.bytes.now s }
     {
@@ -245,7 +247,7 @@ impl<'a> Layout<'a> {
     }
 }
 
-// The bytes, and how they lie, or the first fault in them.
+// The bytes, with their layout or the first fault in them.
 #[derive(Clone, Copy)]
 pub struct Table<'a> {
     bytes: &'a [u8],
