@@ -1,52 +1,85 @@
 // A control table: the bytes of a graph in a fixed layout.
 #![tactic(auto)]
 
-ghost use Rattle.std.specs.Prelude.{◌≡◌, ◌+◌, ◌^◌, ◌<◌, ◌≤◌, length, Some, None, MatchResult, OnOk};
-ghost use Rattle.std.specs.Result.{result_err};
-ghost use Rattle.graph.specs.Bytes.{byte, pair};
-ghost use Rattle.meanings.specs.Fields.{first_below};
-ghost use Rattle.meanings.specs.Table.{initials_at, rows_at, targets_at, table_end, header_fault, columns_fault, rows_fault, targets_fault, row_ok, row_fault, target_fault, row, before, table_fault, table, columns};
+ghost use Rattle.std.specs.Prelude.{◌≡◌, ◌+◌, ◌-◌, ◌^◌, ◌<◌, ◌≤◌, length, Some, None, OnSome, IfSome, IfNone, IfOk, if◌then◌else◌, ◌==◌, nat_lt};
+ghost use Rattle.std.specs.Result.{result_err, ForOk};
+ghost use Rattle.meanings.specs.Fields.{unless};
+ghost use Rattle.graph.specs.Bytes.{byte};
+ghost use Rattle.meanings.specs.Table.{count, arrows, header_fault, columns_fault, rows_fault, targets_fault, row_fault, target_fault, initial_of, word_of, row, before, target, table_fault, table, columns_by, columns};
+ghost use Rattle.table.specs.Offsets.{initials_offset, rows_offset, targets_offset, end_offset};
+ghost use Rattle.table.specs.Tests.{IsFirstFault};
 ghost use Rattle.meanings.proofs.TableSound.{table_sound};
-ghost use Rattle.table.specs.Headers.{Headed, Tested};
 
 use graph::fault::{Cause, Fault};
+use graph::fields::pair_at;
 use graph::source::Source;
 use graph::{State, Word};
 use meanings::Columns;
 use meanings::fields::{reach_to, test};
 
-// The bytes, and what was read of their header: each question is then one look at a known offset.
-#[derive(Clone, Copy)]
-pub struct Table<'a> {
-    bytes: &'a [u8],
-    fault: Option<Fault>,
-    header: Header,
-    ghost tested: { fault ≡ table_fault bytes.now },
-    ghost counted: { header.states ≡ (table bytes.now).states },
-    ghost spanned: { header.width ≡ (table bytes.now).width },
-    ghost mapped: { (fault ≡ None → header.map ≡ byte bytes.now 0) },
-}
-
-// The two bytes from `at` on as a number, the high byte first.
-fn pair_at(bytes: &[u8], at: usize) -> u16
-    requires { at + 1 < length bytes.now }
-    ensures { result ≡ pair bytes.now at }
+// Tests the places below `n` in order, up to the first that fails.
+fn test_each<F: Fn(u16) -> Result<(), Fault>>(n: u16, test_at: F) -> Result<(), Fault>
+    requires { F.IsAlwaysCallable test_at }
+    ensures { IsFirstFault (F.post test_at) n result }
 {
-    bytes[at] as u16 * 256 + bytes[at + 1] as u16
+    for k in 0..n {
+        test_at(k)?;
+    }
+    Ok(())
 }
 
+// The columns that the map byte names.
+fn read_columns(map: u8) -> Result<Columns, Fault>
+    ensures fault { result_err result ≡ unless (nat_lt map 4) Cause.MapBit 0 }
+    ensures named { IfOk result (λ c. c ≡ columns_by None map) }
+{
+    test(map < 4, Cause::MapBit, 0)?;
+    Ok(Columns {
+        words: map & 1 == 1,
+        initials: map & 2 == 2,
+    })
+}
+
+// Bytes whose header has no fault, and what it says: which columns stand, and how many states and arrows there are.
 #[derive(Clone, Copy)]
-struct Header {
-    map: u8,
+struct Layout<'a> {
+    bytes: &'a [u8],
+    columns: Columns,
     states: u16,
     width: u16,
+    ghost headed: { header_fault bytes.now ≡ None },
+    ghost mapped: { columns ≡ columns_by None (byte bytes.now 0) },
+    ghost counted: { states ≡ count bytes.now },
+    ghost spanned: { width ≡ arrows bytes.now },
 }
 
-impl Header {
-    fn initials_at(&self) -> usize
-        ensures { result ≡ initials_at self.now.map self.now.states }
+impl<'a> Layout<'a> {
+    fn read(bytes: &'a [u8]) -> Result<Layout<'a>, Fault>
+        ensures fault { result_err result ≡ header_fault bytes.now }
+        ensures of_bytes { IfOk result (λ l. l.bytes.now ≡ bytes.now) }
     {
-        if self.map & 1 == 1 {
+        reach_to(bytes, 1)?;
+        let columns = read_columns(bytes[0])?;
+        reach_to(bytes, 3)?;
+        let states = pair_at(bytes, 1);
+        test((1..=1024).contains(&states), Cause::Range, 1)?;
+        reach_to(bytes, 5)?;
+        let width = pair_at(bytes, 3);
+        test((1..=16384).contains(&width), Cause::Range, 3)?;
+        Ok(Layout {
+            bytes,
+            columns,
+            states,
+            width,
+        })
+    }
+
+    // The columns come one after the other: words, initial states, row ends and targets.
+    fn initials_at(&self) -> usize
+        ensures at { result ≡ initials_offset self.now.bytes.now }
+        ensures bound { result < 2 ^ 18 }
+    {
+        if self.columns.words {
             5 + 2 * self.states as usize
         } else {
             5
@@ -54,10 +87,11 @@ impl Header {
     }
 
     fn rows_at(&self) -> usize
-        ensures { (result ≡ rows_at self.now.map self.now.states) × (result < 2 ^ 19) }
+        ensures at { result ≡ rows_offset self.now.bytes.now }
+        ensures bound { result < 2 ^ 19 }
     {
         let at = self.initials_at();
-        if self.map & 2 == 2 {
+        if self.columns.initials {
             at + (self.states as usize + 7) / 8
         } else {
             at
@@ -65,145 +99,161 @@ impl Header {
     }
 
     fn targets_at(&self) -> usize
-        ensures { (result ≡ targets_at self.now.map self.now.states) × (result < 2 ^ 20) }
+        ensures at { result ≡ targets_offset self.now.bytes.now }
+        ensures bound { result < 2 ^ 20 }
     {
         self.rows_at() + 2 * self.states as usize
     }
 
-    fn table_end(&self) -> usize
-        ensures { result ≡ table_end self.now.map self.now.states self.now.width }
+    fn end(&self) -> usize
+        ensures { result ≡ end_offset self.now.bytes.now }
     {
         self.targets_at() + 2 * self.width as usize
     }
-}
 
-fn read_header(bytes: &[u8]) -> Result<Header, Fault>
-    ensures { MatchResult result (λ h. Headed bytes.now h.map h.states h.width) (λ f. header_fault bytes.now ≡ Some f) }
-{
-    reach_to(bytes, 1)?;
-    let map = bytes[0];
-    test(map < 4, Cause::MapBit, 0)?;
-    reach_to(bytes, 3)?;
-    let states = pair_at(bytes, 1);
-    test(1 <= states && states <= 1024, Cause::Range, 1)?;
-    reach_to(bytes, 5)?;
-    let width = pair_at(bytes, 3);
-    test(1 <= width && width <= 16384, Cause::Range, 3)?;
-    Ok(Header { map, states, width })
-}
+    // How many arrows the states up to `i` have.
+    fn row_end(&self, i: State) -> u16
+        ensures { result ≡ row self.now.bytes.now i }
+    {
+        pair_at(self.bytes, self.rows_at() + 2 * i as usize)
+    }
 
-// The words need only be there; the initial states have no bit past N.
-fn test_columns(bytes: &[u8], h: Header) -> Result<(), Fault>
-    requires { Headed bytes.now h.map h.states h.width }
-    ensures fault { result_err result ≡ columns_fault bytes.now }
-{
-    reach_to(bytes, h.initials_at())?;
-    let end = h.rows_at();
-    reach_to(bytes, end)?;
-    if h.map & 2 == 2 {
-        let used = (h.states - 1) % 8 + 1;
+    // How many arrows the states before `i` have.
+    fn row_start(&self, i: State) -> u16
+        ensures { result ≡ before self.now.bytes.now i }
+    {
+        if i == 0 { 0 } else { self.row_end(i - 1) }
+    }
+
+    // Where arrow `k` of the table leads.
+    fn target(&self, k: u16) -> State
+        ensures { result ≡ target self.now.bytes.now k }
+    {
+        pair_at(self.bytes, self.targets_at() + 2 * k as usize)
+    }
+
+    // The words need only be there; the initial states have no bit past N.
+    fn test_columns(&self) -> Result<(), Fault>
+        ensures { result_err result ≡ columns_fault self.now.bytes.now }
+    {
+        reach_to(self.bytes, self.initials_at())?;
+        let end = self.rows_at();
+        reach_to(self.bytes, end)?;
+        let used = (self.states - 1) % 8 + 1;
+        let clear = !self.columns.initials || (self.bytes[end - 1] as u16) < 1 << used;
+        test(clear, Cause::Range, end - 1)
+    }
+
+    // The row end of state `i` lies above the one before and not above T, and the last is T.
+    fn test_row(&self, i: State) -> Result<(), Fault>
+        ensures { result_err result ≡ row_fault self.now.bytes.now i }
+    {
+        let end = self.row_end(i);
+        let fits = self.row_start(i) < end
+            && end <= self.width
+            && (i < self.states - 1 || end == self.width);
+        test(fits, Cause::RowEnd, self.rows_at() + 2 * i as usize)
+    }
+
+    fn test_rows(&self) -> Result<(), Fault>
+        ensures { result_err result ≡ rows_fault self.now.bytes.now }
+    {
+        reach_to(self.bytes, self.targets_at())?;
+        test_each(self.states, |i| self.test_row(i))
+    }
+
+    fn test_target(&self, k: u16) -> Result<(), Fault>
+        ensures { result_err result ≡ target_fault self.now.bytes.now k }
+    {
         test(
-            (bytes[end - 1] as u16) < 1u16 << used,
-            Cause::Range,
-            end - 1,
+            self.target(k) < self.states,
+            Cause::Target,
+            self.targets_at() + 2 * k as usize,
         )
-    } else {
-        Ok(())
+    }
+
+    // Nothing lies behind the targets.
+    fn test_length(&self) -> Result<(), Fault>
+        ensures { let end = end_offset self.now.bytes.now in
+            result_err result ≡ unless (length self.now.bytes.now == end) Cause.LeftOver end }
+    {
+        let end = self.end();
+        test(self.bytes.len() == end, Cause::LeftOver, end)
+    }
+
+    fn test_targets(&self) -> Result<(), Fault>
+        ensures { result_err result ≡ targets_fault self.now.bytes.now }
+    {
+        reach_to(self.bytes, self.end())?;
+        test_each(self.width, |k| self.test_target(k))?;
+        self.test_length()
+    }
+
+    // The layout of bytes that pass every test.
+    fn tested(bytes: &'a [u8]) -> Result<Layout<'a>, Fault>
+        ensures fault { result_err result ≡ table_fault bytes.now }
+        ensures of_bytes { IfOk result (λ l. l.bytes.now ≡ bytes.now) }
+    {
+        let layout = Layout::read(bytes)?;
+        layout.test_columns()?;
+        layout.test_rows()?;
+        layout.test_targets()?;
+        Ok(layout)
+    }
+
+    // What the columns tell of `s`, be it a state or not.
+    fn initial(&self, s: State) -> bool
+        ensures { result ≡ initial_of self.now.bytes.now s }
+    {
+        if self.columns.initials {
+            let at = self.initials_at() + s as usize / 8;
+            self.bytes
+                .get(at)
+                .is_some_and(|byte| (byte >> (s % 8)) % 2 == 1)
+        } else {
+            s == 0
+        }
+    }
+
+    fn word(&self, s: State) -> Word
+        ensures { result ≡ word_of self.now.bytes.now s }
+    {
+        if self.columns.words {
+            pair_at(self.bytes, 5 + 2 * s as usize)
+        } else {
+            0
+        }
+    }
+
+    // The rows of a tested table rise, so that nothing is cut off.
+    fn degree(&self, s: State) -> u16
+        ensures { result ≡ row self.now.bytes.now s - before self.now.bytes.now s }
+    {
+        self.row_end(s).saturating_sub(self.row_start(s))
+    }
+
+    fn arrow(&self, s: State, j: u16) -> Option<State>
+        ensures { result
+            ≡ (if nat_lt j (row self.now.bytes.now s - before self.now.bytes.now s)
+            then Some (target self.now.bytes.now (before self.now.bytes.now s + j))
+            else None) }
+    {
+        let start = self.row_start(s);
+        if j < self.row_end(s).saturating_sub(start) {
+            Some(self.target(start + j))
+        } else {
+            None
+        }
     }
 }
 
-// How many arrows the states up to `i` have.
-fn row_end(bytes: &[u8], h: Header, i: State) -> u16
-    requires { (Headed bytes.now h.map h.states h.width) × ((i < h.states) × (targets_at h.map h.states ≤ length bytes.now)) }
-    ensures { result ≡ row bytes.now i }
-{
-    pair_at(bytes, h.rows_at() + 2 * i as usize)
-}
-
-// How many arrows the states before `i` have.
-fn row_start(bytes: &[u8], h: Header, i: State) -> u16
-    requires { (Headed bytes.now h.map h.states h.width) × ((i < h.states) × (targets_at h.map h.states ≤ length bytes.now)) }
-    ensures { result ≡ before bytes.now i }
-{
-    if i == 0 { 0 } else { row_end(bytes, h, i - 1) }
-}
-
-// The row end of state `i` lies above the one before and not above T, and the last is T.
-fn row_fits(bytes: &[u8], h: Header, i: State) -> bool
-    requires { (Headed bytes.now h.map h.states h.width) × ((i < h.states) × (targets_at h.map h.states ≤ length bytes.now)) }
-    ensures { result ≡ row_ok bytes.now i }
-{
-    let end = row_end(bytes, h, i);
-    row_start(bytes, h, i) < end && end <= h.width && (i + 1 < h.states || end == h.width)
-}
-
-fn test_row(bytes: &[u8], h: Header, i: State) -> Result<(), Fault>
-    requires { (Headed bytes.now h.map h.states h.width) × ((i < h.states) × (targets_at h.map h.states ≤ length bytes.now)) }
-    ensures { result_err result ≡ row_fault bytes.now i }
-{
-    test(
-        row_fits(bytes, h, i),
-        Cause::RowEnd,
-        h.rows_at() + 2 * i as usize,
-    )
-}
-
-fn test_each_row(bytes: &[u8], h: Header) -> Result<(), Fault>
-    requires { (Headed bytes.now h.map h.states h.width) × (targets_at h.map h.states ≤ length bytes.now) }
-    ensures { result_err result ≡ first_below h.states (row_fault bytes.now) }
-{
-    for i in 0..h.states {
-        test_row(bytes, h, i)?;
-    }
-    Ok(())
-}
-
-fn test_rows(bytes: &[u8], h: Header) -> Result<(), Fault>
-    requires { Headed bytes.now h.map h.states h.width }
-    ensures fault { result_err result ≡ rows_fault bytes.now }
-    ensures passed { OnOk result (targets_at h.map h.states ≤ length bytes.now) }
-{
-    reach_to(bytes, h.targets_at())?;
-    test_each_row(bytes, h)
-}
-
-fn test_target(bytes: &[u8], h: Header, k: u16) -> Result<(), Fault>
-    requires { (Headed bytes.now h.map h.states h.width) × ((k < h.width) × (table_end h.map h.states h.width ≤ length bytes.now)) }
-    ensures { result_err result ≡ target_fault bytes.now k }
-{
-    let at = h.targets_at() + 2 * k as usize;
-    test(pair_at(bytes, at) < h.states, Cause::Target, at)
-}
-
-fn test_each_target(bytes: &[u8], h: Header) -> Result<(), Fault>
-    requires { (Headed bytes.now h.map h.states h.width) × (table_end h.map h.states h.width ≤ length bytes.now) }
-    ensures { result_err result ≡ first_below h.width (target_fault bytes.now) }
-{
-    for k in 0..h.width {
-        test_target(bytes, h, k)?;
-    }
-    Ok(())
-}
-
-fn test_targets(bytes: &[u8], h: Header) -> Result<(), Fault>
-    requires { Headed bytes.now h.map h.states h.width }
-    ensures fault { result_err result ≡ targets_fault bytes.now }
-{
-    let end = h.table_end();
-    reach_to(bytes, end)?;
-    test_each_target(bytes, h)?;
-    test(bytes.len() == end, Cause::LeftOver, end)
-}
-
-// The header, once the whole layout has been tested.
-fn read_table(bytes: &[u8]) -> Result<Header, Fault>
-    ensures { MatchResult result (λ h. Tested bytes.now h.map h.states h.width) (λ f. table_fault bytes.now ≡ Some f) }
-{
-    let h = read_header(bytes)?;
-    test_columns(bytes, h)?;
-    test_rows(bytes, h)?;
-    test_targets(bytes, h)?;
-    Ok(h)
+// The bytes, with their layout or the first fault in them.
+#[derive(Clone, Copy)]
+pub struct Table<'a> {
+    bytes: &'a [u8],
+    layout: Result<Layout<'a>, Fault>,
+    ghost tested: { result_err layout ≡ table_fault bytes.now },
+    ghost same_bytes: { ForOk layout (λ l. l.bytes.now ≡ bytes.now) },
 }
 
 impl<'a> Table<'a> {
@@ -211,21 +261,9 @@ impl<'a> Table<'a> {
     pub fn new(bytes: &'a [u8]) -> Table<'a>
         ensures { result.bytes.now ≡ bytes.now }
     {
-        match read_table(bytes) {
-            Ok(header) => Table {
-                bytes,
-                fault: None,
-                header,
-            },
-            Err(f) => Table {
-                bytes,
-                fault: Some(f),
-                header: Header {
-                    map: 0,
-                    states: 0,
-                    width: 0,
-                },
-            },
+        Table {
+            bytes,
+            layout: Layout::tested(bytes),
         }
     }
 
@@ -233,15 +271,20 @@ impl<'a> Table<'a> {
     pub fn columns(&self) -> Columns
         ensures { result ≡ columns self.now.bytes.now }
     {
-        match self.fault {
-            Some(_) => Columns {
-                words: false,
-                initials: false,
-            },
-            None => Columns {
-                words: self.header.map & 1 == 1,
-                initials: self.header.map & 2 == 2,
-            },
+        self.layout
+            .map_or(Columns::default(), |layout| layout.columns)
+    }
+
+    // The layout, if the state is there.
+    fn holding(&self, s: State) -> Option<Layout<'a>>
+        ensures missing { IfNone result ((table self.now.bytes.now).states ≤ s) }
+        ensures there { OnSome result (s < count self.now.bytes.now) }
+        ensures tested { OnSome result (table_fault self.now.bytes.now ≡ None) }
+        ensures same_bytes { IfSome result (λ l. l.bytes.now ≡ self.now.bytes.now) }
+    {
+        match self.layout {
+            Ok(layout) if s < layout.states => Some(layout),
+            _ => None,
         }
     }
 }
@@ -249,62 +292,33 @@ impl<'a> Table<'a> {
 impl Source for Table<'_> {
     ghost meaning = { λ t. table t.bytes.now };
 
-    ghost sound = { λ t. table_sound t.bytes.now };
-
     fn check(&self) -> Result<(), Fault> {
-        match self.fault {
-            Some(f) => Err(f),
-            None => Ok(()),
-        }
+        self.layout.map(|_| ())
     }
 
     fn states(&self) -> u16 {
-        self.header.states
+        self.layout.map_or(0, |layout| layout.states)
     }
 
     fn width(&self) -> u16 {
-        self.header.width
+        self.layout.map_or(0, |layout| layout.width)
     }
 
     fn initial(&self, s: State) -> bool {
-        if s >= self.header.states {
-            return false;
-        }
-        if self.header.map & 2 != 2 {
-            return s == 0;
-        }
-        let at = self.header.initials_at() + s as usize / 8;
-        (self.bytes[at] >> (s % 8)) % 2 == 1
+        self.holding(s).is_some_and(|layout| layout.initial(s))
     }
 
     fn word(&self, s: State) -> Word {
-        if s >= self.header.states {
-            return 0;
-        }
-        if self.header.map & 1 != 1 {
-            return 0;
-        }
-        pair_at(self.bytes, 5 + 2 * s as usize)
+        self.holding(s).map_or(0, |layout| layout.word(s))
     }
 
     fn degree(&self, s: State) -> u16 {
-        if s >= self.header.states {
-            return 0;
-        }
-        row_end(self.bytes, self.header, s) - row_start(self.bytes, self.header, s)
+        self.holding(s).map_or(0, |layout| layout.degree(s))
     }
 
     fn arrow(&self, s: State, j: u16) -> Option<State> {
-        if s >= self.header.states {
-            return None;
-        }
-        let start = row_start(self.bytes, self.header, s);
-        if j >= row_end(self.bytes, self.header, s) - start {
-            return None;
-        }
-        Some(pair_at(
-            self.bytes,
-            self.header.targets_at() + 2 * (start + j) as usize,
-        ))
+        self.holding(s)?.arrow(s, j)
     }
+
+    ghost sound = { λ t. table_sound t.bytes.now };
 }
