@@ -1,5 +1,5 @@
 use Rattle.rules.proofs.Masks.{none_reached, next_mask, too_short, all_masks}
-use Rattle.rules.proofs.read_masks.Goals as goal
+use Rattle.rules.proofs.rest.read_masks.Goals as goal
 
 pub returns-in_err-clear : goal.returns-in_err-clear
 returns-in_err-clear c =
