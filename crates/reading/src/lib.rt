@@ -58,8 +58,6 @@ impl<S: Source> Reading<S> {
 impl<S: Source> Source for Reading<S> {
     ghost meaning = { λ r. reading r.bit r.mask (S.Source.meaning r.below) };
 
-    ghost sound = { λ r. reading_sound r.bit r.mask (S.Source.meaning r.below) (S.Source.sound r.below) };
-
     fn check(&self) -> Result<(), Fault> {
         self.below.check().map_err(Fault::raise)?;
         test(self.has_bit(), Cause::Range, 0)
@@ -91,4 +89,6 @@ impl<S: Source> Source for Reading<S> {
     fn arrow(&self, s: State, j: u16) -> Option<State> {
         self.base()?.arrow(s, j)
     }
+
+    ghost sound = { λ r. reading_sound r.bit r.mask (S.Source.meaning r.below) (S.Source.sound r.below) };
 }

@@ -37,22 +37,15 @@ from_less : (l : List ℕ) (n : ℕ) → length (from_rule l n) ≤ length l
 from_less l zero = omega arith
 from_less l (suc n) = omega (arith, from_less l n, rest_less (from_rule l n))
 
-module _ (b : List ℕ) (w n s at : ℕ) (H : HeaderRead b w n s at) where
-  -- what the reader is given behind the header
-  abbrev pub given : List ℕ
-  given = take (length b - at) (drop at b)
-
-  given_is : given ≡ body b
-  given_is = take_rest b at ∙ ap (λ i. drop i b) H.at_is
-
+module _ (b : List ℕ) (w n s : ℕ) (given : List ℕ) (H : HeaderRead b w n s given) where
   same_fault : rules_fault w (length b) given n ≡ rules_fault (bits b) (length b) (body b) (count b)
   same_fault =
       ap (λ v. rules_fault v (length b) given n) H.bits_is
-      ∙ ap (λ (q : List ℕ). rules_fault (bits b) (length b) q n) given_is
+      ∙ ap (λ (q : List ℕ). rules_fault (bits b) (length b) q n) H.rest_is
       ∙ ap (rules_fault (bits b) (length b) (body b)) H.count_is
 
   same_rest : (rest : List ℕ) → rest ≡ from_rule given n → rest ≡ from_rule (body b) (count b)
-  same_rest rest e = e ∙ ap (λ (q : List ℕ). from_rule q n) given_is ∙ ap (from_rule (body b)) H.count_is
+  same_rest rest e = e ∙ ap (λ (q : List ℕ). from_rule q n) H.rest_is ∙ ap (from_rule (body b)) H.count_is
 
   pub rest_short : (rest : List ℕ) → rest ≡ from_rule given n → length rest ≤ length b
   rest_short rest e = omega (arith, ap length (same_rest rest e), from_less (body b) (count b), length-drop (rules_at b) b)
@@ -74,7 +67,7 @@ module _ (b : List ℕ) (w n s at : ℕ) (H : HeaderRead b w n s at) where
         rw (H.no_fault, none, here));
     bits_is = H.bits_is;
     start_is = H.start_is;
-    rules_are = r.rules_are ∙ ap (λ (q : List ℕ). rules q n) given_is ∙ ap (rules (body b)) H.count_is;
+    rules_are = r.rules_are ∙ ap (λ (q : List ℕ). rules q n) H.rest_is ∙ ap (rules (body b)) H.count_is;
   }
 
   pub list_fits : (read : List Rule) → None ≡ rules_fault w (length b) given n → read ≡ rules given n → all_ok w read ≡ true

@@ -1,15 +1,17 @@
 -- A rule read off the front of the bytes, and rules one behind the other.
 use Rattle.std.proofs.Common.{◌≡◌, ℕ, zero, suc, ◌+◌, ◌-◌, ◌<◌, ◌≤◌, true, ltb, leb, List, [], ◌∷◌, ◌++◌, length, take, drop, Some, None, Option, sym, refl, ap, ◌∙◌, subst, add-one, arith, length-drop}
-use Rattle.std.proofs.lemmas.List.{take_rest}
+use Rattle.std.proofs.lemmas.List.{take_rest, length_push}
 use Rattle.std.proofs.lemmas.Bool.{le-leb, lt-ltb, and_from, and_parts}
 use Rattle.graph.specs.declared.fault.Cause.TheVariants.{Short, MapBit, Mask}
 use Rattle.graph.specs.declared.fault.Fault.{Fault}
 use Rattle.meanings.specs.declared.Rule.{Rule}
 use Rattle.graph.specs.Bytes.{byte}
-use Rattle.meanings.specs.Fields.{unless, or_else}
+use Rattle.graph.specs.Tests.{or_else}
+use Rattle.meanings.specs.Fields.{unless}
 use Rattle.meanings.specs.RuleList.{masks_size, front_rule, behind_rule, from_rule, rules, rule_ok, all_ok, rule_fault, rules_fault}
-use Rattle.meanings.proofs.Firsts.{pass, passes}
+use Rattle.meanings.proofs.Firsts.{pass, passes, none_more, first_here}
 use Rattle.graph.proofs.Faulty.{some_none}
+use Rattle.rules.specs.declared.rest.Rest.{Rest}
 use Rattle.rules.specs.Rests.{MasksRead, RuleRead}
 
 or_none : (o : Option Fault) → or_else o None ≡ o
@@ -61,10 +63,32 @@ rules_fit bits len l (suc n) e =
     let p = or_parts (rules_fault bits len l n) (rule_fault bits len (from_rule l n)) e in
     all_more bits (rules l n) (front_rule (from_rule l n)) (rules_fit bits len l n p.0) (fits_alone bits len (from_rule l n) p.1)
 
--- one rule more
-pub rules_more : (l : List ℕ) (i : ℕ) (read : List Rule) (rule : Rule) (left : List ℕ) → read ≡ rules l i → left ≡ from_rule l i → rule ≡ front_rule left → read ++ (rule ∷ []) ≡ rules l (i + 1)
-rules_more l i read rule left a b c =
-    ap (λ (q : List Rule). q ++ (rule ∷ [])) a ∙ ap (λ (q : Rule). rules l i ++ (q ∷ [])) (c ∙ ap front_rule b) ∙ ap (rules l) (sym (add-one i))
+-- n rules have been taken off the front
+pub record RulesSoFar (old now : Rest) (n : ℕ) (read : List Rule) : Type 0 where
+  pub no_fault : rules_fault old.bits old.len old.left.now n ≡ None
+  pub rules_are : read ≡ rules old.left.now n
+  pub rest_is : now.left.now ≡ from_rule old.left.now n
+  pub count_is : length read ≡ n
+  pub bits_stay : now.bits ≡ old.bits
+  pub len_stays : now.len ≡ old.len
 
-pub from_more : (l : List ℕ) (i : ℕ) (left rest : List ℕ) → left ≡ from_rule l i → rest ≡ behind_rule left → rest ≡ from_rule l (i + 1)
-from_more l i left rest a b = b ∙ ap behind_rule a ∙ ap (from_rule l) (sym (add-one i))
+module _ (old now : Rest) (n : ℕ) (read : List Rule) (so_far : RulesSoFar old now n read) where
+  same_fault : rule_fault old.bits old.len (from_rule old.left.now n) ≡ rule_fault now.bits now.len now.left.now
+  same_fault = rw (so_far.bits_stay, so_far.len_stays, so_far.rest_is)
+
+  pub rule_more : (next : Rest) (rule : Rule) → None ≡ rule_fault now.bits now.len now.left.now → RuleRead now.left.now rule next.left.now → (next.bits ≡ now.bits) × (next.len ≡ now.len) → RulesSoFar old next (n + 1) (read ++ (rule ∷ []))
+  rule_more next rule none r same = record {
+    no_fault = none_more (λ i. rule_fault old.bits old.len (from_rule old.left.now i)) n so_far.no_fault (same_fault ∙ sym none);
+    rules_are =
+        ap (λ (q : List Rule). q ++ (rule ∷ [])) so_far.rules_are
+        ∙ ap (λ (q : Rule). rules old.left.now n ++ (q ∷ [])) (r.rule_is ∙ ap front_rule so_far.rest_is)
+        ∙ ap (rules old.left.now) (sym (add-one n));
+    rest_is = r.rest_is ∙ ap behind_rule so_far.rest_is ∙ ap (from_rule old.left.now) (sym (add-one n));
+    count_is = length_push read rule ∙ ap (λ k. k + 1) so_far.count_is;
+    bits_stay = same.0 ∙ so_far.bits_stay;
+    len_stays = same.1 ∙ so_far.len_stays;
+  }
+
+  pub fault_found : (count : ℕ) (f : Fault) → Some f ≡ rule_fault now.bits now.len now.left.now → n < count → Some f ≡ rules_fault old.bits old.len old.left.now count
+  fault_found count f found below =
+      sym (first_here (λ k. rule_fault old.bits old.len (from_rule old.left.now k)) n count f so_far.no_fault (same_fault ∙ sym found) below)

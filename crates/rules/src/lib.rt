@@ -13,6 +13,7 @@ ghost use Rattle.rules.specs.Rests.{after_header, StartRead, HeaderRead, ListRea
 use crate::leads::Rules;
 use crate::rest::Rest;
 use graph::fault::{Cause, Fault};
+use graph::fields::pair_at;
 use graph::source::Source;
 use graph::{State, Word};
 use meanings::fields::{reach_to, test};
@@ -39,8 +40,7 @@ fn read_start(map: u8, bytes: &[u8]) -> Result<(State, &[u8]), Fault>
         return Ok((0, &bytes[3..]));
     }
     reach_to(bytes, 5)?;
-    let start = u16::from_be_bytes([bytes[3], bytes[4]]);
-    Ok((start, &bytes[5..]))
+    Ok((pair_at(bytes, 3), &bytes[5..]))
 }
 
 fn read_header(bytes: &[u8]) -> Result<Header<'_>, Fault>
@@ -119,8 +119,6 @@ impl RuleList {
 impl Source for RuleList {
     ghost meaning = { λ t. told t.read };
 
-    ghost sound = { λ t. told_sound t.read };
-
     fn check(&self) -> Result<(), Fault> {
         self.read.map(|_| ())
     }
@@ -149,4 +147,6 @@ impl Source for RuleList {
     fn arrow(&self, s: State, j: u16) -> Option<State> {
         self.rules_at(s)?.arrow(s, j)
     }
+
+    ghost sound = { λ t. told_sound t.read };
 }

@@ -40,6 +40,7 @@ fn read_masks(map: u8, bytes: &[u8]) -> Option<(Rule, &[u8])>
 }
 
 // What is left of `len` bytes; the states of the list have `bits` bits.
+#[derive(Drop)]
 pub(super) struct Rest<'a> {
     pub(super) bits: u8,
     pub(super) len: usize,
@@ -49,6 +50,7 @@ pub(super) struct Rest<'a> {
 }
 
 impl<'a> Rest<'a> {
+    ghost use Rattle.rules.specs.RuleArray.{used};
     ghost use Rattle.rules.specs.Rests.{RuleRead, RulesRead};
 
     // Every mask lies below bit `bits`, and no bit is both set and cleared.
@@ -68,11 +70,7 @@ impl<'a> Rest<'a> {
         ensures read { IfOk result (λ rule. RuleRead self.old.left.now rule self.new.left.now) }
         ensures same { (self.new.bits ≡ self.old.bits) × (self.new.len ≡ self.old.len) }
     {
-        let short = Fault {
-            cause: Cause::Short,
-            place: self.len,
-            height: 0,
-        };
+        let short = Fault::new(Cause::Short, self.len);
         let [map, masks @ ..] = self.left else {
             return Err(short);
         };
