@@ -1,7 +1,7 @@
 // A rule list: a graph whose states are numbers, told by the rules that lead from one to the next.
 #![tactic(auto)]
 
-ghost use Rattle.std.specs.Prelude.{◌≡◌, ◌≤◌, length, Some, IfOk, MatchResult};
+ghost use Rattle.std.specs.Prelude.{◌≡◌, ◌^◌, ◌<◌, ◌≤◌, true, length, Some, IfOk, MatchResult};
 ghost use Rattle.std.specs.Option.{option_copied};
 ghost use Rattle.std.specs.Result.{result_ok, result_err};
 ghost use Rattle.meanings.specs.Fields.{reach};
@@ -28,6 +28,9 @@ struct Header<'a> {
     count: usize,
     start: State,
     body: &'a [u8],
+    ghost low: { bits ≤ 10 },
+    ghost few: { count ≤ 64 },
+    ghost inside: { start < 2 ^ bits },
 }
 
 // The initial value, 0 if the map leaves it out, and the bytes behind the header.

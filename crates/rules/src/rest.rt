@@ -1,7 +1,7 @@
 // What is left of the bytes of a rule list, as its rules are taken off the front.
-ghost use Rattle.std.specs.Prelude.{◌≡◌, ◌<◌, ◌≤◌, length, IfOk, MatchOption};
+ghost use Rattle.std.specs.Prelude.{◌≡◌, ◌<◌, ◌≤◌, true, length, IfOk, MatchOption};
 ghost use Rattle.std.specs.Result.{result_err};
-ghost use Rattle.meanings.specs.RuleList.{masks_size, rule_ok, rule_fault, rules_fault, rest_fault};
+ghost use Rattle.meanings.specs.RuleList.{masks_size, rule_ok, all_ok, rule_fault, rules_fault, rest_fault};
 ghost use Rattle.rules.specs.Rests.{has_bit, mask_size, MaskRead, MasksRead};
 
 use crate::rule_array::RuleArray;
@@ -68,6 +68,7 @@ impl<'a> Rest<'a> {
     fn rule(&mut self) -> Result<Rule, Fault>
         ensures fault { result_err result ≡ rule_fault self.old.bits self.old.len self.old.left.now }
         ensures read { IfOk result (λ rule. RuleRead self.old.left.now rule self.new.left.now) }
+        ensures fits { IfOk result (λ rule. rule_ok self.old.bits rule ≡ true) }
         ensures same { (self.new.bits ≡ self.old.bits) × (self.new.len ≡ self.old.len) }
     {
         let short = Fault::new(Cause::Short, self.len);
@@ -87,6 +88,7 @@ impl<'a> Rest<'a> {
         requires { count ≤ 64 }
         ensures fault { result_err result ≡ rules_fault self.old.bits self.old.len self.old.left.now count }
         ensures read { IfOk result (λ rules. RulesRead self.old.left.now count (used rules) self.new.left.now) }
+        ensures fit { IfOk result (λ rules. all_ok self.old.bits (used rules) ≡ true) }
         ensures same { self.new.len ≡ self.old.len }
     {
         let mut rules = RuleArray::new();

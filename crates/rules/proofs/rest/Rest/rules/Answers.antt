@@ -1,5 +1,5 @@
 use Rattle.std.proofs.lemmas.Result.{err_from_is_err_and}
-use Rattle.rules.proofs.RuleReads.{rule_more, fault_found}
+use Rattle.rules.proofs.RulesSoFar.{rule_more, fault_found}
 use Rattle.rules.proofs.rest.Rest.rules.Goals as goal
 
 pub returns-in_err-rule-clause-fault : goal.returns-in_err-rule-clause-fault
@@ -10,4 +10,4 @@ returns-in_err-rule-clause-fault c =
 pub loop-i-preserved : goal.loop-i-preserved
 loop-i-preserved c =
     let rule = c.in_ok-rule.ensures in
-    simp c.push.ensures (rule_more _ _ _ _ c.loop-i.invariant c.rule.new.self c.in_ok-rule.field-0 rule.fault rule.read rule.same)
+    simp c.push.ensures (rule_more _ _ _ _ c.loop-i.invariant c.rule.new.self c.in_ok-rule.field-0 rule.fault rule.read rule.fits rule.same)

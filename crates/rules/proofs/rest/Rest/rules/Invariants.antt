@@ -1,5 +1,5 @@
 use Rattle.rules.specs.RuleArray.{used}
-use Rattle.rules.proofs.RuleReads.{RulesSoFar}
+use Rattle.rules.proofs.RulesSoFar.{RulesSoFar}
 use Rattle.rules.proofs.rest.Rest.rules.Given as goal
 
 abbrev pub invariant-loop-i : goal.invariant-loop-i
