@@ -5,7 +5,7 @@ use Rattle.rules.proofs.rest.Rest.rules.Goals as goal
 pub returns-in_err-rule-clause-fault : goal.returns-in_err-rule-clause-fault
 returns-in_err-rule-clause-fault c =
     let p = err_from_is_err_and c.from_residual.result c.from_residual.ensures.1 in
-    simp (p.1, p.2) (fault_found _ _ _ _ c.loop-i.invariant c.args.count c.in_err-rule.field-0.0 c.in_err-rule.ensures.fault c.loop-i-test.true)
+    rw (p.1, p.2) (fault_found _ _ _ _ c.loop-i.invariant c.args.count c.in_err-rule.field-0.0 c.in_err-rule.ensures.fault c.loop-i-test.true)
 
 pub loop-i-preserved : goal.loop-i-preserved
 loop-i-preserved c =
