@@ -4,7 +4,7 @@ use Rattle.std.proofs.lemmas.Bool.{le-ltb}
 use Rattle.graph.specs.declared.fault.Cause.TheVariants.{Range}
 use Rattle.graph.specs.declared.fault.Fault.{Fault}
 use Rattle.graph.specs.Graph.{Graph, Sound, ByFault, word_bits}
-use Rattle.graph.proofs.Faulty.{some_none}
+use Rattle.std.proofs.lemmas.Option.{none-some}
 use Rattle.meanings.specs.Fields.{unless, or_else}
 use Rattle.meanings.specs.Reading.{reread, passed, reading}
 
@@ -45,7 +45,7 @@ read_sound true bit mask g S = record {
 read_sound false bit mask g S = record {
   by_fault = by_fault_own g.fault bit mask g;
   there = λ s j. sym (le-ltb j 0 (omega arith));
-  below = λ s j t e. absurd (some_none (sym e));
+  below = λ s j t e. absurd (none-some _ e);
   few_arrows = λ s. omega arith;
   total = λ s h. absurd (omega arith);
   not_initial = λ s h. refl;

@@ -3,7 +3,7 @@ use Rattle.std.proofs.Common.{◌≡◌, ℕ, zero, suc, ◌^◌, ◌<◌, ◌�
 use lib.Bits.{bit_and, bit_or, bit_xor, and_le_l, or_lt}
 use Rattle.std.proofs.lemmas.Bool.{and_parts, cond-true, cond-false, cases_lt, cases_eq, ltb-true, lt-ltb, le-ltb, eq-eqb, ne_eqb}
 use Rattle.graph.specs.Graph.{Sound}
-use Rattle.graph.proofs.Faulty.{some_none}
+use Rattle.std.proofs.lemmas.Option.{none-some}
 use Rattle.meanings.specs.declared.Rule.{Rule}
 use Rattle.meanings.specs.RuleList.{rule_ok, all_ok, applies, moved, targets, nth, resting, ruled}
 
@@ -47,7 +47,7 @@ Under n [] = Unit {0}
 Under n (x ∷ xs) = (x < n) × Under n xs
 
 nth_under : (n : ℕ) (xs : List ℕ) (j t : ℕ) → Under n xs → nth xs j ≡ Some t → t < n
-nth_under n [] j t u e = absurd (some_none (sym e))
+nth_under n [] j t u e = absurd (none-some _ e)
 nth_under n (x ∷ xs) zero t u e = let same : x ≡ t = cc in omega (arith, same, u.0)
 nth_under n (x ∷ xs) (suc j) t u e = nth_under n xs j t u.1 e
 
@@ -86,7 +86,7 @@ ruled_sound bits start rs low inside few ok = record {
       ];
   below = λ s j t e. elim (cases_lt s (2 ^ bits)) [
     | inl l ↦ nth_under (2 ^ bits) (out s) j t (resting_under (2 ^ bits) s (targets rs s) l (targets_under bits rs s l ok)) (sym (cond-true (ltb s (2 ^ bits)) (nth (out s) j) None (lt-ltb s (2 ^ bits) l)) ∙ e)
-    | inr g ↦ absurd (some_none (sym e ∙ cond-false (ltb s (2 ^ bits)) (nth (out s) j) None (le-ltb s (2 ^ bits) g)))
+    | inr g ↦ absurd (none-some _ (sym (sym e ∙ cond-false (ltb s (2 ^ bits)) (nth (out s) j) None (le-ltb s (2 ^ bits) g))))
   ];
   few_arrows = λ s. elim (cases_lt s (2 ^ bits)) [
     | inl l ↦ omega (arith, in_degree s l, resting_few s (length rs) (targets rs s) (targets_few rs s))

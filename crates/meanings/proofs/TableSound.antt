@@ -1,10 +1,11 @@
 -- What holds of a table without a fault, and that a table keeps the laws of a graph.
 use Rattle.std.proofs.Common.{◌≡◌, ℕ, ◌+◌, ◌-◌, ◌*◌, ◌<◌, ◌≤◌, true, false, cond, ◌&&◌, ◌||◌, eqb, ltb, leb, List, [], ◌∷◌, length, is_some, Some, None, Option, sym, refl, ◌∙◌, subst, inl, inr, arith}
 use Rattle.std.proofs.lemmas.Bool.{and_parts, and_from, and_left, and_right, cond-true, cond-false, cases_lt, ltb-true, leb-true, eqb-true, lt-ltb, le-ltb}
+use Rattle.std.proofs.lemmas.Option.{none-some}
 use Rattle.graph.specs.declared.fault.Cause.TheVariants.{MapBit, Range, RowEnd, Target, LeftOver}
 use Rattle.graph.specs.declared.fault.Fault.{Fault}
 use Rattle.graph.specs.Graph.{Sound}
-use Rattle.graph.proofs.Faulty.{faulty_sound, some_none}
+use Rattle.graph.proofs.Faulty.{faulty_sound}
 use Rattle.graph.specs.Bytes.{byte}
 use Rattle.meanings.specs.Fields.{unless, reach, first_below}
 use Rattle.meanings.specs.Table.{count, arrows, row, before, target, row_ok, row_fault, target_fault, table_end, targets_at, rows_at, header_fault, columns_fault, rows_fault, targets_fault, table_fault, word_of, initial_of, whole, by_fault, table}
@@ -56,9 +57,9 @@ whole_sound b f = record {
           let here = cond-true (ltb s (count b) && ltb j (degree s)) (Some (arrow s j)) None (and_from (ltb s (count b)) (ltb j (degree s)) (lt-ltb s (count b) l) (lt-ltb j (degree s) d)) in
           let same : arrow s j ≡ t = cc in
           omega (arith, same, f.targets (before b s + j) (omega (arith, (f.rows s l).1)))
-      | inr g ↦ absurd (some_none (sym e ∙ nothing s j (and_right (ltb s (count b)) (ltb j (degree s)) (le-ltb j (degree s) g))))
+      | inr g ↦ absurd (none-some _ (sym (sym e ∙ nothing s j (and_right (ltb s (count b)) (ltb j (degree s)) (le-ltb j (degree s) g)))))
     ]
-    | inr g ↦ absurd (some_none (sym e ∙ nothing s j (and_left (ltb s (count b)) (ltb j (degree s)) (le-ltb s (count b) g))))
+    | inr g ↦ absurd (none-some _ (sym (sym e ∙ nothing s j (and_left (ltb s (count b)) (ltb j (degree s)) (le-ltb s (count b) g)))))
   ];
   few_arrows = λ s. elim (cases_lt s (count b)) [
     | inl l ↦ omega (arith, in_degree s l, (f.rows s l).1)

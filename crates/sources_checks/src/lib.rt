@@ -4,6 +4,7 @@
 #[cfg(test)]
 mod tests {
     use graph::fault::{Cause, Fault};
+    use graph::fields::pair_at;
     use graph::source::Source;
     use meanings::Columns;
     use reading::Reading;
@@ -17,11 +18,7 @@ mod tests {
     ];
 
     fn at(cause: Cause, place: usize) -> Result<(), Fault> {
-        Err(Fault {
-            cause,
-            place,
-            height: 0,
-        })
+        Err(Fault::new(cause, place))
     }
 
     fn table_of(bytes: &[u8]) -> Result<(), Fault> {
@@ -30,6 +27,13 @@ mod tests {
 
     fn rules_of(bytes: &[u8]) -> Result<(), Fault> {
         RuleList::new(bytes).check()
+    }
+
+    #[test]
+    fn pairs(rt: HostRuntime) {
+        assert_eq!(rt; pair_at(&G, 1), 4);
+        assert_eq!(rt; (pair_at(&G, 30), pair_at(&G, 31)), (0x300, 0));
+        assert_eq!(rt; pair_at(&G, usize::MAX), 0);
     }
 
     #[test]
