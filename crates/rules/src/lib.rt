@@ -6,12 +6,14 @@ ghost use Rattle.std.specs.Option.{option_copied};
 ghost use Rattle.std.specs.Result.{result_ok, result_err};
 ghost use Rattle.meanings.specs.Fields.{reach};
 ghost use Rattle.meanings.specs.RuleList.{header_fault, list_fault, rule_list};
+ghost use Rattle.rules.specs.declared.rule_array.TheConstants.{MOST};
 ghost use Rattle.rules.specs.RuleArray.{used};
 ghost use Rattle.rules.specs.Told.{told, told_sound, rules_at};
 ghost use Rattle.rules.specs.Rests.{after_header, StartRead, HeaderRead, ListRead};
 
 use crate::leads::Rules;
 use crate::rest::Rest;
+use crate::rule_array::MOST;
 use graph::fault::{Cause, Fault};
 use graph::fields::pair_at;
 use graph::source::Source;
@@ -29,7 +31,7 @@ struct Header<'a> {
     start: State,
     body: &'a [u8],
     ghost low: { bits ≤ 10 },
-    ghost few: { count ≤ 64 },
+    ghost few: { count ≤ MOST },
     ghost inside: { start < 2 ^ bits },
 }
 
@@ -54,10 +56,10 @@ fn read_header(bytes: &[u8]) -> Result<Header<'_>, Fault>
     test(map < 2, Cause::MapBit, 0)?;
     reach_to(bytes, 2)?;
     let bits = bytes[1];
-    test(1 <= bits && bits <= 10, Cause::Range, 1)?;
+    test((1..=10).contains(&bits), Cause::Range, 1)?;
     reach_to(bytes, 3)?;
     let count = usize::from(bytes[2]);
-    test(count <= 64, Cause::Range, 2)?;
+    test(count <= MOST, Cause::Range, 2)?;
     let (start, body) = read_start(map, bytes)?;
     test(start < 1u16 << bits, Cause::Range, 3)?;
     Ok(Header {

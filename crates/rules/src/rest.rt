@@ -4,7 +4,7 @@ ghost use Rattle.std.specs.Result.{result_err};
 ghost use Rattle.meanings.specs.RuleList.{masks_size, rule_ok, all_ok, rule_fault, rules_fault, rest_fault};
 ghost use Rattle.rules.specs.Rests.{has_bit, mask_size, MaskRead, MasksRead};
 
-use crate::rule_array::RuleArray;
+use crate::rule_array::{MOST, RuleArray};
 use graph::fault::{Cause, Fault};
 use meanings::Rule;
 use meanings::fields::test;
@@ -85,7 +85,7 @@ impl<'a> Rest<'a> {
 
     // The next `count` rules.
     pub(super) fn rules(&mut self, count: usize) -> Result<RuleArray, Fault>
-        requires { count ≤ 64 }
+        requires { count ≤ MOST }
         ensures fault { result_err result ≡ rules_fault self.old.bits self.old.len self.old.left.now count }
         ensures read { IfOk result (λ rules. RulesRead self.old.left.now count (used rules) self.new.left.now) }
         ensures fit { IfOk result (λ rules. all_ok self.old.bits (used rules) ≡ true) }

@@ -1,16 +1,17 @@
 // Rules in fixed memory: a list of rules never allocates, and is `Copy`, which an `ArrayVec` is not.
 ghost use Rattle.std.specs.Prelude.{◌≡◌, ◌<◌, ◌≤◌, [], ◌∷◌, ◌++◌, length};
+ghost use Rattle.rules.specs.declared.rule_array.TheConstants.{MOST};
 
 use meanings::Rule;
 
 // The most rules that a list has.
-const MOST: usize = 64;
+pub(super) const MOST: usize = 64;
 
 #[derive(Clone, Copy)]
 pub(super) struct RuleArray {
     count: usize,
     rules: [Rule; MOST],
-    ghost few: { count ≤ 64 },
+    ghost few: { count ≤ MOST },
 }
 
 impl RuleArray {
@@ -32,7 +33,7 @@ impl RuleArray {
     }
 
     pub(super) fn push(&mut self, rule: Rule)
-        requires { length (used self.old) < 64 }
+        requires { length (used self.old) < MOST }
         ensures { used self.new ≡ used self.old ++ rule ∷ [] }
     {
         self.rules[self.count] = rule;
@@ -41,7 +42,7 @@ impl RuleArray {
 
     pub(super) fn as_slice(&self) -> &[Rule]
         ensures used { result.now ≡ used self.now }
-        ensures few { length result.now ≤ 64 }
+        ensures few { length result.now ≤ MOST }
     {
         &self.rules[..self.count]
     }
