@@ -42,13 +42,14 @@ impl<S: Source> Reading<S> {
         self.has_bit().then_some(&self.below)
     }
 
+    #[tactic(auto, using(crate::proofs::Complements::all_but))]
     fn reread(&self, word: Word) -> Word
         requires { self.now.bit < word_bits }
         ensures { result ≡ reread self.now.bit self.now.mask word }
     {
         let one = (1 as Word) << self.bit;
         if word & self.mask == 0 {
-            word & (Word::MAX ^ one)
+            word & !one
         } else {
             word | one
         }
