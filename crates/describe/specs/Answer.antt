@@ -24,20 +24,20 @@ pub record Tells (columns : Option Columns) (g : Graph) (text : List ℕ) : Type
   pub is : text ≡ graph_text columns g
 
 -- what the bytes tell, as a table or as a list of rules; a table alone has columns
-abbrev pub told : Form → List ℕ → Graph
-told Table b = table b
-told Rules b = rule_list b
+abbrev pub graph_of : Form → List ℕ → Graph
+graph_of Table b = table b
+graph_of Rules b = rule_list b
 
-abbrev pub columns_told : Form → List ℕ → Option Columns
-columns_told Table b = Some (columns b)
-columns_told Rules b = None
+abbrev pub columns_of : Form → List ℕ → Option Columns
+columns_of Table b = Some (columns b)
+columns_of Rules b = None
 
 -- what is asked of the bytes
 abbrev pub asked : Request → List ℕ → Graph
-asked q b = layered q.layer (told q.form b)
+asked q b = layered q.layer (graph_of q.form b)
 
 abbrev pub columns_asked : Request → List ℕ → Option Columns
-columns_asked q b = columns_told q.form b
+columns_asked q b = columns_of q.form b
 
 -- the fault of the source, or want of memory, and nothing else
 abbrev pub Fails : Graph → Failure → Type 0

@@ -13,7 +13,9 @@ use meanings::Columns;
 use reading::Reading;
 use rules::RuleList;
 use std::alloc::{AllocError, Global};
+use std::io::Read;
 use std::process::ExitCode;
+use std::rt::Env;
 use std::{env, io};
 use table::Table;
 use thiserror::Error;
@@ -99,7 +101,7 @@ impl From<Fault> for Failure {
     }
 }
 
-fn read_request(rt: &HostRuntime) -> Result<Request, Failure> {
+fn read_request(rt: &(impl Env + AllocGlobal)) -> Result<Request, Failure> {
     let words: Vec<String> = env::args(rt)?.skip(1).collect(rt.alloc())?;
     Request::parse(&words).ok_or(Failure::Usage)
 }
@@ -138,14 +140,14 @@ fn answer(alloc: Global, request: Request, bytes: &[u8]) -> Result<String, Failu
     }
 }
 
-fn run(rt: &HostRuntime) -> Result<(), Failure> {
+fn run(rt: &(impl Env + AllocGlobal + Print), input: impl Read + Drop) -> Result<(), Failure> {
     let request = read_request(rt)?;
-    let bytes = read_input(rt.alloc(), rt.stdin())?;
+    let bytes = read_input(rt.alloc(), input)?;
     let text = answer(rt.alloc(), request, &bytes)?;
     print!(rt; "{text}")?;
     Ok(())
 }
 
 fn main(rt: HostRuntime) -> ExitCode {
-    finish(&rt, "describe", run(&rt))
+    finish(&rt, "describe", run(&rt, rt.stdin()))
 }
