@@ -26,7 +26,7 @@ pub trait Pattern {
     // How many marks the watch has.
     const COUNT: u8;
 
-    ghost count: { ℕ };
+    ghost COUNT: { ℕ };
 
     // The path rule, of a sequence of words.
     ghost keeps: { Self → (ℕ → ℕ) → Type 0 };
@@ -37,7 +37,10 @@ pub trait Pattern {
     ghost tint: { Self → ℕ → ℕ → Tint };
 
     fn marks() -> u8
-        ensures { result ≡ count };
+        ensures { result ≡ COUNT }
+    {
+        Self::COUNT
+    }
 
     fn step(&self, mark: u8, word: Word) -> Told
         ensures { result ≡ step self.now mark word };
@@ -45,7 +48,7 @@ pub trait Pattern {
     fn tint(&self, mark: u8, word: Word) -> Tint
         ensures { result ≡ tint self.now mark word };
 
-    ghost few: { (0 < count) × (count ≤ 4) };
+    ghost few: { (0 < COUNT) × (COUNT ≤ 4) };
 
-    ghost lawful: { (x : Self) → Lawful count (keeps x) (step x) (tint x) };
+    ghost lawful: { (x : Self) → Lawful COUNT (keeps x) (step x) (tint x) };
 }
