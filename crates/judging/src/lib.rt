@@ -1,9 +1,10 @@
 // A watch over a lasso of words, which tells whether the lasso breaks the path rule.
 #![tactic(auto)]
 
-ghost use Rattle.std.specs.Prelude.{◌≡◌, Some, codes};
+ghost use Rattle.std.specs.Prelude.{◌≡◌, ◌<◌, ◌↔◌, IsTrue, length, Some, codes};
+ghost use Rattle.graph.specs.Lassos.{lasso};
 ghost use Rattle.patterns.specs.Chosen.{AnyKeeps};
-ghost use Rattle.patterns.specs.Watch.{onward};
+ghost use Rattle.patterns.specs.Watch.{Breaks, onward};
 ghost use Rattle.judging.specs.Walks.{tint_at, fresh, met, along, turned, round, rejected};
 ghost use Rattle.judging.specs.Judged.{Judged, KeepsJudged};
 
@@ -130,6 +131,12 @@ impl Walk {
     }
 }
 
+fn is_broken<P: Pattern>(pattern: &P, stem: &[Word], cycle: &[Word]) -> bool
+    ensures { 0 < length cycle.now → IsTrue result ↔ Breaks (P.Pattern.keeps pattern.now) (lasso stem.now cycle.now) }
+{
+    Walk::round(pattern, stem, cycle).is_rejected()
+}
+
 // Whether the lasso breaks the path rule.
 pub fn judge<P: Pattern>(pattern: &P, stem: &[Word], cycle: &[Word]) -> Result<bool, EmptyLoop>
     ensures { Judged (P.Pattern.keeps pattern.now) stem.now cycle.now result }
@@ -137,7 +144,7 @@ pub fn judge<P: Pattern>(pattern: &P, stem: &[Word], cycle: &[Word]) -> Result<b
     if cycle.is_empty() {
         return Err(EmptyLoop);
     }
-    Ok(Walk::round(pattern, stem, cycle).is_rejected())
+    Ok(is_broken(pattern, stem, cycle))
 }
 
 // Whether the lasso keeps the path rule. For the six patterns each lasso keeps it or breaks it.
