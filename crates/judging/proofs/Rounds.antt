@@ -4,13 +4,13 @@ use native.Mathlib.Nat.{mul-add-mod_self_right}
 use Rattle.std.proofs.lemmas.Bool.{false≢true, lt-ltb, or_cases, or_left, or_right}
 use Rattle.graph.specs.Lassos.{lasso}
 use Rattle.patterns.specs.Watch.{onward, fed, after, Tinted, StaysSore, Rejects, Breaks, MarkBelow, Lawful}
-use Rattle.patterns.specs.declared.watch.Told.{Told}
-use Rattle.patterns.specs.declared.watch.Told.TheVariants.{Kept, Broken, Mark}
-use Rattle.patterns.specs.declared.watch.Tint.{Tint}
-use Rattle.patterns.specs.declared.watch.Tint.TheVariants.{Calm, Sore, Relief}
-use Rattle.patterns.specs.Laws.{relax}
-use Rattle.patterns.specs.Settle.{Repeats, again_many, folded, pigeons, tell, sides, in_loop, lasso_repeats}
-use Rattle.patterns.specs.Watching.{clash, fed_again, fed_below, turns_repeat}
+use Rattle.watches.specs.declared.Told.{Told}
+use Rattle.watches.specs.declared.Told.TheVariants.{Kept, Broken, Mark}
+use Rattle.watches.specs.declared.Tint.{Tint}
+use Rattle.watches.specs.declared.Tint.TheVariants.{Calm, Sore, Relief}
+use Rattle.watches.proofs.Laws.{relax}
+use Rattle.watches.proofs.Settle.{Repeats, again_many, folded, pigeons, tell, sides, in_loop, lasso_repeats}
+use Rattle.watches.proofs.Watching.{clash, fed_again, fed_below, turns_repeat}
 use Rattle.judging.specs.Walks.{tint_at, noted, walked, fresh, along, turned, round, rejected_at, rejected}
 use Rattle.judging.specs.declared.Walk.{Walk}
 

@@ -1,9 +1,9 @@
 // The pattern always.
-ghost use Rattle.patterns.specs.Rules.{KeepsAlways};
-ghost use Rattle.patterns.specs.Tables.{always_row};
+ghost use Rattle.watches.specs.Rules.{KeepsAlways};
+ghost use Rattle.watches.specs.Tables.{always_row};
 ghost use Rattle.patterns.specs.Words.{test};
-ghost use Rattle.patterns.specs.declared.watch.Tint.TheVariants.{Calm};
-ghost use Rattle.patterns.specs.Laws.{always_law};
+ghost use Rattle.watches.specs.declared.Tint.TheVariants.{Calm};
+ghost use Rattle.watches.proofs.Laws.{always_law};
 ghost use Rattle.std.proofs.Common.{rules};
 
 use crate::proposition::Proposition;

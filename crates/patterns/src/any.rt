@@ -4,7 +4,7 @@ ghost use Rattle.patterns.specs.Chosen.{chosen, kind_chosen, AnyKeeps, any_step,
 ghost use Rattle.std.proofs.Common.{arith, rules};
 ghost use Rattle.patterns.specs.Words.{test};
 ghost use Rattle.patterns.specs.declared.any.AnyPattern.TheVariants.{Always, Eventual, Until, UntilStable, LeadsTo, ConditionalStable};
-ghost use Rattle.patterns.specs.Laws.{relax, always_law, eventual_law, until_law, until_stable_law, leads_to_law, conditional_stable_law};
+ghost use Rattle.watches.proofs.Laws.{relax, always_law, eventual_law, until_law, until_stable_law, leads_to_law, conditional_stable_law};
 
 use crate::always::Always;
 use crate::conditional_stable::ConditionalStable;

@@ -1,9 +1,9 @@
 // The pattern conditional stable.
 ghost use Rattle.std.specs.Prelude.{◌==◌};
-ghost use Rattle.patterns.specs.Rules.{KeepsConditionalStable};
-ghost use Rattle.patterns.specs.Tables.{conditional_stable_row, conditional_stable_tint};
+ghost use Rattle.watches.specs.Rules.{KeepsConditionalStable};
+ghost use Rattle.watches.specs.Tables.{conditional_stable_row, conditional_stable_tint};
 ghost use Rattle.patterns.specs.Words.{test};
-ghost use Rattle.patterns.specs.Laws.{conditional_stable_law};
+ghost use Rattle.watches.proofs.Laws.{conditional_stable_law};
 ghost use Rattle.std.proofs.Common.{rules};
 
 use crate::proposition::Proposition;

@@ -1,9 +1,9 @@
 // The pattern eventual.
-ghost use Rattle.patterns.specs.Rules.{KeepsEventual};
-ghost use Rattle.patterns.specs.Tables.{eventual_row};
+ghost use Rattle.watches.specs.Rules.{KeepsEventual};
+ghost use Rattle.watches.specs.Tables.{eventual_row};
 ghost use Rattle.patterns.specs.Words.{test};
-ghost use Rattle.patterns.specs.declared.watch.Tint.TheVariants.{Sore};
-ghost use Rattle.patterns.specs.Laws.{eventual_law};
+ghost use Rattle.watches.specs.declared.Tint.TheVariants.{Sore};
+ghost use Rattle.watches.proofs.Laws.{eventual_law};
 ghost use Rattle.std.proofs.Common.{rules};
 
 use crate::proposition::Proposition;

@@ -1,9 +1,9 @@
 // The pattern leads-to.
 ghost use Rattle.std.specs.Prelude.{◌==◌};
-ghost use Rattle.patterns.specs.Rules.{KeepsLeadsTo};
-ghost use Rattle.patterns.specs.Tables.{leads_to_row, leads_to_tint};
+ghost use Rattle.watches.specs.Rules.{KeepsLeadsTo};
+ghost use Rattle.watches.specs.Tables.{leads_to_row, leads_to_tint};
 ghost use Rattle.patterns.specs.Words.{test};
-ghost use Rattle.patterns.specs.Laws.{leads_to_law};
+ghost use Rattle.watches.proofs.Laws.{leads_to_law};
 ghost use Rattle.std.proofs.Common.{rules};
 
 use crate::proposition::Proposition;

@@ -1,9 +1,9 @@
 // The pattern until.
-ghost use Rattle.patterns.specs.Rules.{KeepsUntil};
-ghost use Rattle.patterns.specs.Tables.{until_row};
+ghost use Rattle.watches.specs.Rules.{KeepsUntil};
+ghost use Rattle.watches.specs.Tables.{until_row};
 ghost use Rattle.patterns.specs.Words.{test};
-ghost use Rattle.patterns.specs.declared.watch.Tint.TheVariants.{Sore};
-ghost use Rattle.patterns.specs.Laws.{until_law};
+ghost use Rattle.watches.specs.declared.Tint.TheVariants.{Sore};
+ghost use Rattle.watches.proofs.Laws.{until_law};
 ghost use Rattle.std.proofs.Common.{rules};
 
 use crate::proposition::Proposition;

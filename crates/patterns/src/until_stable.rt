@@ -1,9 +1,9 @@
 // The pattern until stable.
 ghost use Rattle.std.specs.Prelude.{◌==◌};
-ghost use Rattle.patterns.specs.Rules.{KeepsUntilStable};
-ghost use Rattle.patterns.specs.Tables.{until_stable_row, until_stable_tint};
+ghost use Rattle.watches.specs.Rules.{KeepsUntilStable};
+ghost use Rattle.watches.specs.Tables.{until_stable_row, until_stable_tint};
 ghost use Rattle.patterns.specs.Words.{test};
-ghost use Rattle.patterns.specs.Laws.{until_stable_law};
+ghost use Rattle.watches.proofs.Laws.{until_stable_law};
 ghost use Rattle.std.proofs.Common.{rules};
 
 use crate::proposition::Proposition;
