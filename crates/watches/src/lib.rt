@@ -1,4 +1,5 @@
 // A watch reads a sequence of words one by one. It stops at kept or broken, or goes on at a mark.
+// Here are its answers and its law, which a pattern owes, with the proof that each of the six tables keeps it.
 #![tactic(auto)]
 
 ghost use Rattle.std.specs.Prelude.{◌≡◌, ℕ, ◌<◌, ◌≤◌};
