@@ -1,16 +1,16 @@
 -- What a watch meets on twelve turns of a loop, after four, tells whether it rejects the lasso.
-use Rattle.std.proofs.Common.{◌≡◌, ℕ, zero, suc, ◌+◌, ◌-◌, ◌*◌, ◌%◌, ◌<◌, ◌≤◌, Bool, true, false, cond, not, ◌&&◌, ◌||◌, T, ◌↔◌, List, length, get_or, sym, refl, ap, ◌∙◌, subst, ap₂, inl, inr, add-zero, add-suc, mul-le-mul_right, mul_assoc, add-mul, le-mul_of_pos_right, arith}
+use Rattle.std.proofs.Common.{◌≡◌, ℕ, zero, suc, ◌+◌, ◌-◌, ◌*◌, ◌%◌, ◌<◌, ◌≤◌, Bool, true, false, cond, not, ◌&&◌, ◌||◌, IsTrue, ◌↔◌, List, length, get_or, sym, refl, ap, ◌∙◌, subst, ap₂, inl, inr, add-zero, add-suc, mul-le-mul_right, mul_assoc, add-mul, le-mul_of_pos_right, arith}
 use native.Mathlib.Nat.{mul-add-mod_self_right}
-use Rattle.std.proofs.lemmas.Bool.{lt-ltb, or_cases, or_left, or_right}
+use Rattle.std.proofs.lemmas.Bool.{false≢true, lt-ltb, or_cases, or_left, or_right}
 use Rattle.graph.specs.Lassos.{lasso}
 use Rattle.patterns.specs.Watch.{onward, fed, after, Tinted, StaysSore, Rejects, Breaks, MarkBelow, Lawful}
-use Rattle.patterns.specs.declared.watch.Told.{Told}
-use Rattle.patterns.specs.declared.watch.Told.TheVariants.{Kept, Broken, Mark}
-use Rattle.patterns.specs.declared.watch.Tint.{Tint}
-use Rattle.patterns.specs.declared.watch.Tint.TheVariants.{Calm, Sore, Relief}
-use Rattle.patterns.specs.Laws.{relax}
-use Rattle.patterns.specs.Settle.{Repeats, again_many, folded, pigeons, tell, sides, in_loop, lasso_repeats}
-use Rattle.patterns.specs.Watching.{clash, fed_again, fed_below, turns_repeat}
+use Rattle.watches.specs.declared.Told.{Told}
+use Rattle.watches.specs.declared.Told.TheVariants.{Kept, Broken, Mark}
+use Rattle.watches.specs.declared.Tint.{Tint}
+use Rattle.watches.specs.declared.Tint.TheVariants.{Calm, Sore, Relief}
+use Rattle.watches.proofs.Laws.{relax}
+use Rattle.watches.proofs.Settle.{Repeats, again_many, folded, pigeons, tell, sides, in_loop, lasso_repeats}
+use Rattle.watches.proofs.Watching.{clash, fed_again, fed_below, turns_repeat}
 use Rattle.judging.specs.Walks.{tint_at, noted, walked, fresh, along, turned, round, rejected_at, rejected}
 use Rattle.judging.specs.declared.Walk.{Walk}
 
@@ -144,13 +144,13 @@ module _ (step : ℕ → ℕ → Told) (tint : ℕ → ℕ → Tint) (words : �
       ]
 
 -- both flags that a walk ends with
-flags : (sore relief : Bool) → T (sore && not relief) → (sore ≡ true) × (relief ≡ false)
-flags true true t = elim t [ ]
+flags : (sore relief : Bool) → IsTrue (sore && not relief) → (sore ≡ true) × (relief ≡ false)
+flags true true t = absurd (false≢true t)
 flags true false t = (refl, refl)
-flags false relief t = elim t [ ]
+flags false relief t = absurd (false≢true t)
 
-flagged : (sore relief : Bool) → sore ≡ true → relief ≡ false → T (sore && not relief)
-flagged sore relief e f = subst (λ b. T (b && not relief)) (sym e) (subst (λ b. T (true && not b)) (sym f) tt)
+flagged : (sore relief : Bool) → sore ≡ true → relief ≡ false → IsTrue (sore && not relief)
+flagged sore relief e f = subst (λ b. IsTrue (b && not relief)) (sym e) (subst (λ b. IsTrue (true && not b)) (sym f) refl)
 
 module _ (step : ℕ → ℕ → Told) (tint : ℕ → ℕ → Tint) (bounded : (m x : ℕ) → MarkBelow 4 (step m x)) (stem loop : List ℕ) (some : 0 < length loop) where
   abbrev words : ℕ → ℕ
@@ -307,11 +307,11 @@ module _ (step : ℕ → ℕ → Told) (tint : ℕ → ℕ → Tint) (bounded : 
           )
     ]
 
-    round_tells : (t : Told) → fed step words end ≡ t → T (rejected_at t late.sore late.relief) ↔ Rejects step tint words
-    round_tells Kept e = (λ t. elim t [ ], λ r. absurd (kept_not_rejected e r))
+    round_tells : (t : Told) → fed step words end ≡ t → IsTrue (rejected_at t late.sore late.relief) ↔ Rejects step tint words
+    round_tells Kept e = (λ t. absurd (false≢true t), λ r. absurd (kept_not_rejected e r))
     round_tells Broken e = (
       λ _. inl (end - 1, (let s : suc (end - 1) ≡ end = omega arith in ap (fed step words) s ∙ e)),
-      λ _. tt,
+      λ _. refl,
     )
     round_tells (Mark m) e =
         let here : fed step words begin ≡ Mark m = sym comes_round ∙ e in (
@@ -322,10 +322,10 @@ module _ (step : ℕ → ℕ → Told) (tint : ℕ → ℕ → Tint) (bounded : 
           ],
         )
 
-    pub round_rejects : T (rejected late) ↔ Rejects step tint words
+    pub round_rejects : IsTrue (rejected late) ↔ Rejects step tint words
     round_rejects =
         let t = walked_told step tint words fresh ring begin told (12 * length loop) on_loop in
-        subst (λ (a : Told). T (rejected_at a late.sore late.relief) ↔ Rejects step tint words) (sym t) (round_tells _ refl)
+        subst (λ (a : Told). IsTrue (rejected_at a late.sore late.relief) ↔ Rejects step tint words) (sym t) (round_tells _ refl)
 
 -- a walk over the stem and four turns stands where the twelve turns begin
 module _ (step : ℕ → ℕ → Told) (tint : ℕ → ℕ → Tint) (stem loop : List ℕ) where
@@ -343,9 +343,9 @@ module _ (step : ℕ → ℕ → Told) (tint : ℕ → ℕ → Tint) (stem loop 
 
 -- the pattern's law, at a lasso that was walked
 pub judged : {count : ℕ} {keeps : (ℕ → ℕ) → Type 0} {step : ℕ → ℕ → Told} {tint : ℕ → ℕ → Tint} → count ≤ 4 → Lawful count keeps step tint → (stem loop : List ℕ) → 0 < length loop
-    → (walk : Walk) (b : Bool) → walk ≡ round step tint stem loop → b ≡ rejected walk → T b ↔ Breaks keeps (lasso stem loop)
+    → (walk : Walk) (b : Bool) → walk ≡ round step tint stem loop → b ≡ rejected walk → IsTrue b ↔ Breaks keeps (lasso stem loop)
 judged {step = step} {tint = tint} few law stem loop some walk b walked told =
     let e : b ≡ rejected (round step tint stem loop) = told ∙ ap rejected walked in
     let (to, from) = round_rejects step tint (relax few law).below stem loop some (fresh _) (settled step tint stem loop) refl refl in
     let (caught, breaks) = law.rejects stem loop some in
-    (λ t. breaks (to (subst T e t)), λ broken. subst T (sym e) (from (caught broken)))
+    (λ t. breaks (to (subst IsTrue e t)), λ broken. subst IsTrue (sym e) (from (caught broken)))

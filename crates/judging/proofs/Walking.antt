@@ -1,8 +1,8 @@
 -- Stretches of words put together.
 use Rattle.std.proofs.Common.{◌≡◌, ℕ, zero, suc, ◌+◌, ◌*◌, ◌%◌, ◌<◌, List, length, get_or, sym, refl, ap, ◌∙◌, ap₂, add-zero, add-suc, add-mul, one-mul, add-one, arith}
 use Rattle.std.proofs.lemmas.Nat.{mod-mul-add}
-use Rattle.patterns.specs.declared.watch.Told.{Told}
-use Rattle.patterns.specs.declared.watch.Tint.{Tint}
+use Rattle.watches.specs.declared.Told.{Told}
+use Rattle.watches.specs.declared.Tint.{Tint}
 use Rattle.judging.specs.Walks.{met, walked}
 use Rattle.judging.specs.declared.Walk.{Walk}
 

@@ -1,10 +1,10 @@
 -- What a watch meets on a stretch of words.
 use Rattle.std.specs.Prelude.{ℕ, zero, suc, ◌*◌, ◌%◌, Bool, true, false, not, ◌&&◌, List, length, slice_index}
 use Rattle.patterns.specs.Watch.{onward}
-use Rattle.patterns.specs.declared.watch.Told.{Told}
-use Rattle.patterns.specs.declared.watch.Told.TheVariants.{Kept, Broken, Mark}
-use Rattle.patterns.specs.declared.watch.Tint.{Tint}
-use Rattle.patterns.specs.declared.watch.Tint.TheVariants.{Calm, Sore, Relief}
+use Rattle.watches.specs.declared.Told.{Told}
+use Rattle.watches.specs.declared.Told.TheVariants.{Kept, Broken, Mark}
+use Rattle.watches.specs.declared.Tint.{Tint}
+use Rattle.watches.specs.declared.Tint.TheVariants.{Calm, Sore, Relief}
 use Rattle.judging.specs.declared.Walk.{Walk}
 
 -- the tint of a place by what the watch says there; a watch that has stopped is calm

@@ -1,7 +1,7 @@
 // A watch over a lasso of words, which tells whether the lasso breaks the path rule.
 #![tactic(auto)]
 
-ghost use Rattle.std.specs.Prelude.{◌≡◌, ◌<◌, T, ◌↔◌, length, Some, codes};
+ghost use Rattle.std.specs.Prelude.{◌≡◌, ◌<◌, ◌↔◌, IsTrue, length, Some, codes};
 ghost use Rattle.graph.specs.Lassos.{lasso};
 ghost use Rattle.patterns.specs.Chosen.{AnyKeeps};
 ghost use Rattle.patterns.specs.Watch.{Breaks, onward};
@@ -28,24 +28,6 @@ impl fmt::Display for EmptyLoop {
 
 impl Error for EmptyLoop {}
 
-// What a watch has met on its way: what it said last, and whether a place was sore and one relief.
-#[derive(Clone, Copy)]
-struct Walk {
-    told: Told,
-    sore: bool,
-    relief: bool,
-}
-
-fn fresh(told: Told) -> Walk
-    ensures { result ≡ fresh told }
-{
-    Walk {
-        told,
-        sore: false,
-        relief: false,
-    }
-}
-
 // What the watch says to the next word: it has stopped at kept or broken, or goes on from its mark.
 pub fn onward<P: Pattern>(pattern: &P, told: Told, word: Word) -> Told
     ensures { result ≡ onward (P.Pattern.step pattern.now) told word }
@@ -67,76 +49,92 @@ pub fn tint_at<P: Pattern>(pattern: &P, told: Told, word: Word) -> Tint
     }
 }
 
-fn meet<P: Pattern>(pattern: &P, walk: Walk, word: Word) -> Walk
-    ensures { result ≡ met (P.Pattern.step pattern.now) (P.Pattern.tint pattern.now) walk word }
-{
-    let told = onward(pattern, walk.told, word);
-    match tint_at(pattern, told, word) {
-        Tint::Calm => Walk { told, ..walk },
-        Tint::Sore => Walk {
+// What a watch has met on its way: what it said last, and whether a place was sore and one relief.
+#[derive(Clone, Copy)]
+struct Walk {
+    told: Told,
+    sore: bool,
+    relief: bool,
+}
+
+impl Walk {
+    // Nothing met yet.
+    fn fresh(told: Told) -> Walk
+        ensures { result ≡ fresh told }
+    {
+        Walk {
             told,
-            sore: true,
-            ..walk
-        },
-        Tint::Relief => Walk {
-            told,
-            relief: true,
-            ..walk
-        },
+            sore: false,
+            relief: false,
+        }
     }
-}
 
-fn walk_on<P: Pattern>(pattern: &P, before: Walk, words: &[Word]) -> Walk
-    ensures { result ≡ along (P.Pattern.step pattern.now) (P.Pattern.tint pattern.now) before words.now }
-{
-    let mut walk = before;
-    for word in words {
-        walk = meet(pattern, walk, *word);
+    fn meet<P: Pattern>(self, pattern: &P, word: Word) -> Walk
+        ensures { result ≡ met (P.Pattern.step pattern.now) (P.Pattern.tint pattern.now) self word }
+    {
+        let told = onward(pattern, self.told, word);
+        match tint_at(pattern, told, word) {
+            Tint::Calm => Walk { told, ..self },
+            Tint::Sore => Walk {
+                told,
+                sore: true,
+                ..self
+            },
+            Tint::Relief => Walk {
+                told,
+                relief: true,
+                ..self
+            },
+        }
     }
-    walk
-}
 
-fn turn<P: Pattern>(pattern: &P, before: Walk, cycle: &[Word], turns: u8) -> Walk
-    ensures { result ≡ turned (P.Pattern.step pattern.now) (P.Pattern.tint pattern.now) before cycle.now turns }
-{
-    let mut walk = before;
-    for _ in 0..turns {
-        walk = walk_on(pattern, walk, cycle);
+    fn along<P: Pattern>(self, pattern: &P, words: &[Word]) -> Walk
+        ensures { result ≡ along (P.Pattern.step pattern.now) (P.Pattern.tint pattern.now) self words.now }
+    {
+        let mut walk = self;
+        for word in words {
+            walk = walk.meet(pattern, *word);
+        }
+        walk
     }
-    walk
-}
 
-// Whether the watch rejects what it walked, if it were to meet the last stretch again and again.
-fn rejects(walk: Walk) -> bool
-    ensures { result ≡ rejected walk }
-{
-    match walk.told {
-        Told::Kept => false,
-        Told::Broken => true,
-        Told::Mark(_) => walk.sore && !walk.relief,
+    fn turned<P: Pattern>(self, pattern: &P, cycle: &[Word], turns: u8) -> Walk
+        ensures { result ≡ turned (P.Pattern.step pattern.now) (P.Pattern.tint pattern.now) self cycle.now turns }
+    {
+        let mut walk = self;
+        for _ in 0..turns {
+            walk = walk.along(pattern, cycle);
+        }
+        walk
     }
-}
 
-// There are at most four marks: after four turns of the loop the marks at its start go round in one to four turns, so
-// that twelve turns more are whole rounds and show all that ever comes.
-fn round<P: Pattern>(pattern: &P, stem: &[Word], cycle: &[Word]) -> Walk
-    ensures { result ≡ round (P.Pattern.step pattern.now) (P.Pattern.tint pattern.now) stem.now cycle.now }
-{
-    let first = walk_on(pattern, fresh(Told::Mark(0)), stem);
-    let settled = turn(pattern, first, cycle, 4);
-    turn(pattern, fresh(settled.told), cycle, 12)
+    // There are at most four marks: after four turns of the loop the marks at its start go round in one to four turns,
+    // so that twelve turns more are whole rounds and show all that ever comes.
+    fn round<P: Pattern>(pattern: &P, stem: &[Word], cycle: &[Word]) -> Walk
+        ensures { result ≡ round (P.Pattern.step pattern.now) (P.Pattern.tint pattern.now) stem.now cycle.now }
+    {
+        let settled = Walk::fresh(Told::Mark(0))
+            .along(pattern, stem)
+            .turned(pattern, cycle, 4);
+        Walk::fresh(settled.told).turned(pattern, cycle, 12)
+    }
+
+    // Whether the watch rejects what it walked, if it were to meet the last stretch again and again.
+    fn is_rejected(self) -> bool
+        ensures { result ≡ rejected self }
+    {
+        match self.told {
+            Told::Kept => false,
+            Told::Broken => true,
+            Told::Mark(_) => self.sore && !self.relief,
+        }
+    }
 }
 
 fn is_broken<P: Pattern>(pattern: &P, stem: &[Word], cycle: &[Word]) -> bool
-    ensures { 0 < length cycle.now → T result ↔ Breaks (P.Pattern.keeps pattern.now) (lasso stem.now cycle.now) }
+    ensures { 0 < length cycle.now → IsTrue result ↔ Breaks (P.Pattern.keeps pattern.now) (lasso stem.now cycle.now) }
 {
-    rejects(round(pattern, stem, cycle))
-}
-
-fn is_kept(pattern: &AnyPattern, stem: &[Word], cycle: &[Word]) -> bool
-    ensures { 0 < length cycle.now → T result ↔ ∥ AnyKeeps pattern.now (lasso stem.now cycle.now) ∥₁ }
-{
-    !is_broken(pattern, stem, cycle)
+    Walk::round(pattern, stem, cycle).is_rejected()
 }
 
 // Whether the lasso breaks the path rule.
@@ -153,8 +151,5 @@ pub fn judge<P: Pattern>(pattern: &P, stem: &[Word], cycle: &[Word]) -> Result<b
 pub fn keeps(pattern: &AnyPattern, stem: &[Word], cycle: &[Word]) -> Result<bool, EmptyLoop>
     ensures { KeepsJudged (AnyKeeps pattern.now) stem.now cycle.now result }
 {
-    if cycle.is_empty() {
-        return Err(EmptyLoop);
-    }
-    Ok(is_kept(pattern, stem, cycle))
+    Ok(!judge(pattern, stem, cycle)?)
 }

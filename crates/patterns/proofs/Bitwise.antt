@@ -1,5 +1,5 @@
 -- The test of a proposition, bit by bit.
-use Rattle.std.proofs.Common.{◌≡◌, ℕ, zero, suc, ◌+◌, ◌*◌, ◌/◌, ◌%◌, ◌^◌, ◌<◌, min, Bool, true, false, T, eqb, ◌↔◌, sym, refl, ap, ◌∙◌, subst, mod-lt, div-one, arith}
+use Rattle.std.proofs.Common.{◌≡◌, ℕ, zero, suc, ◌+◌, ◌*◌, ◌/◌, ◌%◌, ◌^◌, ◌<◌, min, Bool, IsTrue, eqb, ◌↔◌, sym, ap, ◌∙◌, subst, mod-lt, div-one, arith}
 use native.Mathlib.Nat.{div-add-mod, zero-div}
 use lib.Arith.{bin_ind}
 use lib.Bits.{bit_and, and_step, and_zero_r}
@@ -52,19 +52,12 @@ avoids =
     none_of (suc a) (suc b) h l f = absurd (f (omega arith) (omega arith))
 
 module _ (on off word : ℕ) where
-  pub bitwise : T (has on off word) ↔ ((k : ℕ) → (Bit on k → Bit word k) × (Bit off k → Bit word k → ⊥))
+  pub bitwise : IsTrue (has on off word) ↔ ((k : ℕ) → (Bit on k → Bit word k) × (Bit off k → Bit word k → ⊥))
   bitwise = (there, back)
     where
-      held : (b : Bool) → T b → b ≡ true
-      held true t = refl
-      held false t = elim t [ ]
-
-      holds : (b : Bool) → b ≡ true → T b
-      holds b e = subst T (sym e) tt
-
-      there : T (has on off word) → (k : ℕ) → (Bit on k → Bit word k) × (Bit off k → Bit word k → ⊥)
+      there : IsTrue (has on off word) → (k : ℕ) → (Bit on k → Bit word k) × (Bit off k → Bit word k → ⊥)
       there t k =
-          let parts = and_parts (eqb (bit_and word on) on) (eqb (bit_and word off) 0) (held _ t) in
+          let parts = and_parts (eqb (bit_and word on) on) (eqb (bit_and word off) 0) t in
           let a : bit_and word on ≡ on = eqb-true _ _ parts.0 in
           let b : bit_and word off ≡ 0 = eqb-true _ _ parts.1 in (
             λ e. (let c : min (word / 2 ^ k % 2) (on / 2 ^ k % 2) ≡ on / 2 ^ k % 2 = sym (and_bit word on k) ∙ ap (λ n. n / 2 ^ k % 2) a in
@@ -77,9 +70,9 @@ module _ (on off word : ℕ) where
           zero_bit : (k : ℕ) → 0 / 2 ^ k % 2 ≡ 0
           zero_bit k = ap (λ n. n % 2) (zero-div (2 ^ k))
 
-      back : ((k : ℕ) → (Bit on k → Bit word k) × (Bit off k → Bit word k → ⊥)) → T (has on off word)
-      back h = holds _ (and_from _ _ (eq-eqb _ _ (covers on word (λ k. (h k).0))) (eq-eqb _ _ (avoids off word (λ k. (h k).1))))
+      back : ((k : ℕ) → (Bit on k → Bit word k) × (Bit off k → Bit word k → ⊥)) → IsTrue (has on off word)
+      back h = and_from _ _ (eq-eqb _ _ (covers on word (λ k. (h k).0))) (eq-eqb _ _ (avoids off word (λ k. (h k).1)))
 
   -- an answer that equals the test says so bit by bit
-  pub bits_of : (b : Bool) → b ≡ has on off word → T b ↔ ((k : ℕ) → (Bit on k → Bit word k) × (Bit off k → Bit word k → ⊥))
-  bits_of b e = subst (λ (b : Bool). T b ↔ ((k : ℕ) → (Bit on k → Bit word k) × (Bit off k → Bit word k → ⊥))) (sym e) bitwise
+  pub bits_of : {b : Bool} → b ≡ has on off word → IsTrue b ↔ ((k : ℕ) → (Bit on k → Bit word k) × (Bit off k → Bit word k → ⊥))
+  bits_of e = subst (λ (b : Bool). IsTrue b ↔ ((k : ℕ) → (Bit on k → Bit word k) × (Bit off k → Bit word k → ⊥))) (sym e) bitwise

@@ -2,13 +2,13 @@
 use Rattle.std.proofs.Common.{ℕ, ◌<◌, eqb, ◌⊎◌, List, length, arith}
 use Rattle.graph.specs.Lassos.{lasso}
 use Rattle.patterns.specs.Chosen.{AnyKeeps}
-use Rattle.patterns.specs.Watch.{Breaks}
+use Rattle.watches.specs.Watch.{Breaks}
 use Rattle.patterns.specs.Words.{test}
 use Rattle.patterns.specs.declared.any.AnyPattern.{AnyPattern}
 use Rattle.patterns.specs.declared.any.AnyPattern.TheVariants.{Always, Eventual, Until, UntilStable, LeadsTo, ConditionalStable}
-use Rattle.patterns.specs.Laws.{decided, always_below, eventual_below, until_below, until_stable_below, leads_to_below, conditional_stable_below}
-use Rattle.patterns.specs.Marked.{until_stable_grounds, leads_to_grounds, conditional_stable_grounds}
-use Rattle.patterns.specs.Simple.{always_grounds, eventual_grounds, until_grounds}
+use Rattle.watches.proofs.Laws.{decided, always_below, eventual_below, until_below, until_stable_below, leads_to_below, conditional_stable_below}
+use Rattle.watches.proofs.Marked.{until_stable_grounds, leads_to_grounds, conditional_stable_grounds}
+use Rattle.watches.proofs.Simple.{always_grounds, eventual_grounds, until_grounds}
 
 pub any_decided : (x : AnyPattern) (stem loop : List ℕ) → 0 < length loop → AnyKeeps x (lasso stem loop) ⊎ Breaks (AnyKeeps x) (lasso stem loop)
 any_decided (Always x) = decided (omega arith) (λ m w. always_below (test x.q w)) (always_grounds (test x.q))

@@ -1,3 +1,2 @@
 mod Bitwise
-mod AlwaysCalm
 pub mod Decided

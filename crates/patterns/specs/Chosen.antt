@@ -1,16 +1,16 @@
 -- A pattern picked at run time: its rule and its watch are those of the pattern picked.
 use Rattle.std.specs.Prelude.{ℕ, ◌==◌}
-use Rattle.patterns.specs.Rules.{KeepsAlways, KeepsEventual, KeepsUntil, KeepsUntilStable, KeepsLeadsTo, KeepsConditionalStable}
-use Rattle.patterns.specs.Tables.{always_row, eventual_row, until_row, until_stable_row, until_stable_tint, leads_to_row, leads_to_tint, conditional_stable_row, conditional_stable_tint}
+use Rattle.watches.specs.Rules.{KeepsAlways, KeepsEventual, KeepsUntil, KeepsUntilStable, KeepsLeadsTo, KeepsConditionalStable}
+use Rattle.watches.specs.Tables.{always_row, eventual_row, until_row, until_stable_row, until_stable_tint, leads_to_row, leads_to_tint, conditional_stable_row, conditional_stable_tint}
 use Rattle.patterns.specs.Words.{test}
 use Rattle.patterns.specs.declared.any.AnyPattern.{AnyPattern}
 use Rattle.patterns.specs.declared.any.AnyPattern.TheVariants as any
 use Rattle.patterns.specs.declared.kind.Kind.{Kind}
 use Rattle.patterns.specs.declared.kind.Kind.TheVariants.{Always, Eventual, Until, UntilStable, LeadsTo, ConditionalStable}
 use Rattle.patterns.specs.declared.proposition.Proposition.{Proposition}
-use Rattle.patterns.specs.declared.watch.Tint.{Tint}
-use Rattle.patterns.specs.declared.watch.Tint.TheVariants.{Calm, Sore}
-use Rattle.patterns.specs.declared.watch.Told.{Told}
+use Rattle.watches.specs.declared.Tint.{Tint}
+use Rattle.watches.specs.declared.Tint.TheVariants.{Calm, Sore}
+use Rattle.watches.specs.declared.Told.{Told}
 
 -- the pattern of a kind, with P and Q
 abbrev pub chosen : Kind → Proposition → Proposition → AnyPattern

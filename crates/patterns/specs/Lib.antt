@@ -1,11 +1,6 @@
 pub mod Words
 pub mod Kinds
-pub mod Rules
-pub mod Watch
-pub mod Tables
 pub mod Chosen
-pub mod Laws
-pub mod Settle
-pub mod Watching
-pub mod Simple
-pub mod Marked
+pub use Rattle.watches.specs.Watch
+pub use Rattle.watches.specs.Rules
+pub use Rattle.watches.specs.Tables

@@ -1,9 +1,9 @@
 // The pattern always.
-ghost use Rattle.patterns.specs.Rules.{KeepsAlways};
-ghost use Rattle.patterns.specs.Tables.{always_row};
+ghost use Rattle.watches.specs.Rules.{KeepsAlways};
+ghost use Rattle.watches.specs.Tables.{always_row};
 ghost use Rattle.patterns.specs.Words.{test};
-ghost use Rattle.patterns.specs.declared.watch.Tint.TheVariants.{Calm};
-ghost use Rattle.patterns.specs.Laws.{always_law};
+ghost use Rattle.watches.specs.declared.Tint.TheVariants.{Calm};
+ghost use Rattle.watches.proofs.Laws.{always_law};
 ghost use Rattle.std.proofs.Common.{rules};
 
 use crate::proposition::Proposition;
@@ -19,7 +19,7 @@ pub struct Always {
 impl Pattern for Always {
     const COUNT: u8 = 1;
 
-    ghost count = { 1 };
+    ghost COUNT = { 1 };
 
     ghost keeps = { λ x. KeepsAlways (test x.q) };
 
@@ -30,10 +30,6 @@ impl Pattern for Always {
     ghost few = { Prim.search rules };
 
     ghost lawful = { λ x. always_law (test x.q) };
-
-    fn marks() -> u8 {
-        Self::COUNT
-    }
 
     fn step(&self, mark: u8, word: Word) -> Told {
         match mark {

@@ -4,7 +4,7 @@ ghost use Rattle.patterns.specs.Chosen.{chosen, kind_chosen, AnyKeeps, any_step,
 ghost use Rattle.std.proofs.Common.{arith, rules};
 ghost use Rattle.patterns.specs.Words.{test};
 ghost use Rattle.patterns.specs.declared.any.AnyPattern.TheVariants.{Always, Eventual, Until, UntilStable, LeadsTo, ConditionalStable};
-ghost use Rattle.patterns.specs.Laws.{relax, always_law, eventual_law, until_law, until_stable_law, leads_to_law, conditional_stable_law};
+ghost use Rattle.watches.proofs.Laws.{relax, always_law, eventual_law, until_law, until_stable_law, leads_to_law, conditional_stable_law};
 
 use crate::always::Always;
 use crate::conditional_stable::ConditionalStable;
@@ -59,7 +59,7 @@ impl AnyPattern {
 impl Pattern for AnyPattern {
     const COUNT: u8 = 2;
 
-    ghost count = { 2 };
+    ghost COUNT = { 2 };
 
     ghost keeps = { AnyKeeps };
 
@@ -77,10 +77,6 @@ impl Pattern for AnyPattern {
       | LeadsTo x ↦ leads_to_law (test x.p) (test x.q)
       | ConditionalStable x ↦ conditional_stable_law (test x.p) (test x.q)
     ] };
-
-    fn marks() -> u8 {
-        Self::COUNT
-    }
 
     fn step(&self, mark: u8, word: Word) -> Told {
         match self {

@@ -1,9 +1,9 @@
 // The pattern eventual.
-ghost use Rattle.patterns.specs.Rules.{KeepsEventual};
-ghost use Rattle.patterns.specs.Tables.{eventual_row};
+ghost use Rattle.watches.specs.Rules.{KeepsEventual};
+ghost use Rattle.watches.specs.Tables.{eventual_row};
 ghost use Rattle.patterns.specs.Words.{test};
-ghost use Rattle.patterns.specs.declared.watch.Tint.TheVariants.{Sore};
-ghost use Rattle.patterns.specs.Laws.{eventual_law};
+ghost use Rattle.watches.specs.declared.Tint.TheVariants.{Sore};
+ghost use Rattle.watches.proofs.Laws.{eventual_law};
 ghost use Rattle.std.proofs.Common.{rules};
 
 use crate::proposition::Proposition;
@@ -19,7 +19,7 @@ pub struct Eventual {
 impl Pattern for Eventual {
     const COUNT: u8 = 1;
 
-    ghost count = { 1 };
+    ghost COUNT = { 1 };
 
     ghost keeps = { λ x. KeepsEventual (test x.q) };
 
@@ -30,10 +30,6 @@ impl Pattern for Eventual {
     ghost few = { Prim.search rules };
 
     ghost lawful = { λ x. eventual_law (test x.q) };
-
-    fn marks() -> u8 {
-        Self::COUNT
-    }
 
     fn step(&self, mark: u8, word: Word) -> Told {
         match mark {

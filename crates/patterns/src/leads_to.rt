@@ -1,9 +1,9 @@
 // The pattern leads-to.
 ghost use Rattle.std.specs.Prelude.{◌==◌};
-ghost use Rattle.patterns.specs.Rules.{KeepsLeadsTo};
-ghost use Rattle.patterns.specs.Tables.{leads_to_row, leads_to_tint};
+ghost use Rattle.watches.specs.Rules.{KeepsLeadsTo};
+ghost use Rattle.watches.specs.Tables.{leads_to_row, leads_to_tint};
 ghost use Rattle.patterns.specs.Words.{test};
-ghost use Rattle.patterns.specs.Laws.{leads_to_law};
+ghost use Rattle.watches.proofs.Laws.{leads_to_law};
 ghost use Rattle.std.proofs.Common.{rules};
 
 use crate::proposition::Proposition;
@@ -20,7 +20,7 @@ pub struct LeadsTo {
 impl Pattern for LeadsTo {
     const COUNT: u8 = 2;
 
-    ghost count = { 2 };
+    ghost COUNT = { 2 };
 
     ghost keeps = { λ x. KeepsLeadsTo (test x.p) (test x.q) };
 
@@ -31,10 +31,6 @@ impl Pattern for LeadsTo {
     ghost few = { Prim.search rules };
 
     ghost lawful = { λ x. leads_to_law (test x.p) (test x.q) };
-
-    fn marks() -> u8 {
-        Self::COUNT
-    }
 
     fn step(&self, mark: u8, word: Word) -> Told {
         match mark {

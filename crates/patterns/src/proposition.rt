@@ -1,6 +1,6 @@
 // Propositions over words.
-ghost use Rattle.std.specs.Prelude.{◌≡◌, T, ◌↔◌};
-ghost use Rattle.patterns.specs.Words.{has, test, Holds};
+ghost use Rattle.std.specs.Prelude.{◌≡◌, IsTrue, ◌↔◌};
+ghost use Rattle.patterns.specs.Words.{test, Holds};
 
 use graph::Word;
 
@@ -11,17 +11,11 @@ pub struct Proposition {
     pub off: Word,
 }
 
-fn has(on: Word, off: Word, word: Word) -> bool
-    ensures { result ≡ has on off word }
-{
-    word & on == on && word & off == 0
-}
-
 impl Proposition {
     pub fn holds(self, word: Word) -> bool
         ensures value { result ≡ test self word }
-        ensures bits { T result ↔ Holds self word }
+        ensures bits { IsTrue result ↔ Holds self word }
     {
-        has(self.on, self.off, word)
+        word & self.on == self.on && word & self.off == 0
     }
 }

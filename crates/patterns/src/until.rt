@@ -1,9 +1,9 @@
 // The pattern until.
-ghost use Rattle.patterns.specs.Rules.{KeepsUntil};
-ghost use Rattle.patterns.specs.Tables.{until_row};
+ghost use Rattle.watches.specs.Rules.{KeepsUntil};
+ghost use Rattle.watches.specs.Tables.{until_row};
 ghost use Rattle.patterns.specs.Words.{test};
-ghost use Rattle.patterns.specs.declared.watch.Tint.TheVariants.{Sore};
-ghost use Rattle.patterns.specs.Laws.{until_law};
+ghost use Rattle.watches.specs.declared.Tint.TheVariants.{Sore};
+ghost use Rattle.watches.proofs.Laws.{until_law};
 ghost use Rattle.std.proofs.Common.{rules};
 
 use crate::proposition::Proposition;
@@ -20,7 +20,7 @@ pub struct Until {
 impl Pattern for Until {
     const COUNT: u8 = 1;
 
-    ghost count = { 1 };
+    ghost COUNT = { 1 };
 
     ghost keeps = { λ x. KeepsUntil (test x.p) (test x.q) };
 
@@ -31,10 +31,6 @@ impl Pattern for Until {
     ghost few = { Prim.search rules };
 
     ghost lawful = { λ x. until_law (test x.p) (test x.q) };
-
-    fn marks() -> u8 {
-        Self::COUNT
-    }
 
     fn step(&self, mark: u8, word: Word) -> Told {
         match mark {

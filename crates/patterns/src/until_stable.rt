@@ -1,9 +1,9 @@
 // The pattern until stable.
 ghost use Rattle.std.specs.Prelude.{◌==◌};
-ghost use Rattle.patterns.specs.Rules.{KeepsUntilStable};
-ghost use Rattle.patterns.specs.Tables.{until_stable_row, until_stable_tint};
+ghost use Rattle.watches.specs.Rules.{KeepsUntilStable};
+ghost use Rattle.watches.specs.Tables.{until_stable_row, until_stable_tint};
 ghost use Rattle.patterns.specs.Words.{test};
-ghost use Rattle.patterns.specs.Laws.{until_stable_law};
+ghost use Rattle.watches.proofs.Laws.{until_stable_law};
 ghost use Rattle.std.proofs.Common.{rules};
 
 use crate::proposition::Proposition;
@@ -20,7 +20,7 @@ pub struct UntilStable {
 impl Pattern for UntilStable {
     const COUNT: u8 = 2;
 
-    ghost count = { 2 };
+    ghost COUNT = { 2 };
 
     ghost keeps = { λ x. KeepsUntilStable (test x.p) (test x.q) };
 
@@ -31,10 +31,6 @@ impl Pattern for UntilStable {
     ghost few = { Prim.search rules };
 
     ghost lawful = { λ x. until_stable_law (test x.p) (test x.q) };
-
-    fn marks() -> u8 {
-        Self::COUNT
-    }
 
     fn step(&self, mark: u8, word: Word) -> Told {
         match mark {

@@ -92,14 +92,32 @@ fn rows_of_mark_1(rt: HostRuntime) -> Result<(), Fail> {
 #[test]
 fn numbers(rt: HostRuntime) -> Result<(), Fail> {
     for n in 1..=6u8 {
-        let Some(kind) = Kind::numbered(n) else {
-            return Err(Fail::new("a pattern has no number"));
-        };
-        assert_eq!(rt; kind.number(), n);
+        let kind = Kind::try_from(n)?;
+        assert_eq!(rt; u8::from(kind), n);
         assert_eq!(rt; kind.has_first(), n > 2);
         assert_eq!(rt; picked(kind).kind(), kind);
     }
-    assert!(rt; Kind::numbered(0).is_none() && Kind::numbered(7).is_none());
+    assert!(rt; Kind::try_from(0).is_err() && Kind::try_from(7).is_err());
+    Ok(())
+}
+
+#[test]
+fn names(rt: HostRuntime) -> Result<(), Fail> {
+    let names = [
+        "always",
+        "eventual",
+        "until",
+        "until-stable",
+        "leads-to",
+        "conditional-stable",
+    ];
+    for (n, name) in (1u8..).zip(names) {
+        let kind: Kind = name.parse()?;
+        assert_eq!(rt; u8::from(kind), n);
+        assert_eq!(rt; kind.name(), name);
+        assert_eq!(rt; format!(in rt.alloc(); "{kind}")?.as_str(), name);
+    }
+    assert!(rt; "Always".parse::<Kind>().is_err() && "until stable".parse::<Kind>().is_err());
     Ok(())
 }
 
@@ -108,9 +126,7 @@ fn numbers(rt: HostRuntime) -> Result<(), Fail> {
 fn lassos(rt: HostRuntime) -> Result<(), Fail> {
     let none: [Word; 0] = [];
     for n in 1..=6u8 {
-        let Some(kind) = Kind::numbered(n) else {
-            return Err(Fail::new("a pattern has no number"));
-        };
+        let kind = Kind::try_from(n)?;
         let pattern = picked(kind);
         assert!(rt; keeps(&pattern, &[2, 3], &[2, 2])?);
         assert!(rt; !judge(&pattern, &[2, 3], &[2, 2])?);

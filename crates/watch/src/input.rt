@@ -4,8 +4,8 @@ use patterns::any::AnyPattern;
 use patterns::kind::Kind;
 use patterns::proposition::Proposition;
 use std::alloc::{AllocError, Global};
-use std::error::Error;
-use std::fmt;
+use std::str;
+use thiserror::Error;
 
 #[derive(Drop)]
 pub struct Input {
@@ -15,154 +15,122 @@ pub struct Input {
 }
 
 // What a line should have been.
-#[derive(Clone, Copy, PartialEq, Eq, Debug)]
+#[derive(Clone, Copy, PartialEq, Eq, Debug, Error)]
 pub enum Expected {
+    #[error("pattern NAME, a name of the six")]
     Pattern,
+    #[error("P on HHHH off HHHH")]
     First,
+    #[error("Q on HHHH off HHHH")]
     Second,
+    #[error("stem, then words HHHH")]
     Stem,
+    #[error("loop, then at least one word HHHH")]
     Loop,
+    #[error("nothing more")]
     End,
 }
 
-#[derive(Clone, Copy, PartialEq, Eq, Debug)]
+#[derive(Clone, Copy, PartialEq, Eq, Debug, Error)]
 pub enum Refusal {
+    #[error("line {0}: expected {1}")]
     Line(u8, Expected),
-    Memory,
+    #[error("out of memory")]
+    Memory(#[from(alloc)] AllocError),
 }
 
-fn wording(expected: Expected) -> &'static str {
-    match expected {
-        Expected::Pattern => "pattern NAME, a name of the six",
-        Expected::First => "P on HHHH off HHHH",
-        Expected::Second => "Q on HHHH off HHHH",
-        Expected::Stem => "stem, then words HHHH",
-        Expected::Loop => "loop, then at least one word HHHH",
-        Expected::End => "nothing more",
+// The lines that are left, and how many were asked for: a line that is missing has its number too, and no words.
+#[derive(Drop)]
+struct Lines<'a> {
+    rest: str::Lines<'a>,
+    asked: u8,
+}
+
+impl<'a> Lines<'a> {
+    fn new(text: &'a str) -> Lines<'a> {
+        Lines {
+            rest: text.lines(),
+            asked: 0,
+        }
     }
-}
 
-impl fmt::Display for Refusal {
-    fn fmt<W: fmt::Write>(&self, f: &mut fmt::Formatter<W>) -> fmt::Result {
-        match self {
-            Refusal::Line(line, expected) => {
-                let wording = wording(*expected);
-                write!(f, "line {line}: expected {wording}")
-            }
-            Refusal::Memory => f.write_str("out of memory"),
+    fn next(&mut self) -> Option<&'a str> {
+        self.asked = self.asked.saturating_add(1);
+        self.rest.next()
+    }
+
+    // What the words of the next line say.
+    fn expect<T: Drop, F: FnOnce(&[&str]) -> Result<Option<T>, AllocError>>(
+        &mut self,
+        alloc: Global,
+        expected: Expected,
+        parse: F,
+    ) -> Result<T, Refusal>
+        requires { F.IsAlwaysCallable parse }
+    {
+        let line = self.next().unwrap_or("");
+        let words: Vec<&str> = line.split_whitespace().collect(alloc)?;
+        parse(&words)?.ok_or(Refusal::Line(self.asked, expected))
+    }
+
+    fn end(&mut self) -> Result<(), Refusal> {
+        match self.next() {
+            None => Ok(()),
+            Some(_) => Err(Refusal::Line(self.asked, Expected::End)),
         }
     }
 }
 
-impl Error for Refusal {}
-
-impl From<AllocError> for Refusal {
-    fn from(_: AllocError) -> Refusal {
-        Refusal::Memory
-    }
-}
-
-fn named(name: &str) -> Option<Kind> {
-    match name {
-        "always" => Some(Kind::Always),
-        "eventual" => Some(Kind::Eventual),
-        "until" => Some(Kind::Until),
-        "until-stable" => Some(Kind::UntilStable),
-        "leads-to" => Some(Kind::LeadsTo),
-        "conditional-stable" => Some(Kind::ConditionalStable),
+fn kind(words: &[&str]) -> Option<Kind> {
+    match *words {
+        ["pattern", name] => name.parse().ok(),
         _ => None,
-    }
-}
-
-fn kind(line: &str) -> Option<Kind> {
-    let mut words = line.split_whitespace();
-    if words.next()? != "pattern" {
-        return None;
-    }
-    let kind = named(words.next()?)?;
-    match words.next() {
-        None => Some(kind),
-        Some(_) => None,
     }
 }
 
 // A word as four hexadecimal digits.
 fn hex(text: &str) -> Option<Word> {
-    if text.len() != 4 {
-        return None;
-    }
     // The library's reader takes a sign too.
-    for byte in text.bytes() {
-        if !byte.is_ascii_hexdigit() {
-            return None;
-        }
+    if text.len() != 4 || !text.bytes().all(|byte| byte.is_ascii_hexdigit()) {
+        return None;
     }
     Word::from_str_radix(text, 16).ok()
 }
 
-fn proposition(name: &str, line: &str) -> Option<Proposition> {
-    let mut words = line.split_whitespace();
-    if words.next()? != name || words.next()? != "on" {
-        return None;
-    }
-    let on = hex(words.next()?)?;
-    if words.next()? != "off" {
-        return None;
-    }
-    let off = hex(words.next()?)?;
-    match words.next() {
-        None => Some(Proposition { on, off }),
-        Some(_) => None,
-    }
-}
-
-fn list(heap: Global, name: &str, line: &str) -> Result<Option<Vec<Word>>, AllocError> {
-    let mut words = line.split_whitespace();
-    if words.next() != Some(name) {
-        return Ok(None);
-    }
-    let mut list = Vec::new(heap);
-    for word in words {
-        let Some(word) = hex(word) else {
-            return Ok(None);
-        };
-        list.push(word)?;
-    }
-    Ok(Some(list))
-}
-
-pub(crate) fn parse(heap: Global, text: &str) -> Result<Input, Refusal> {
-    let mut lines = text.lines();
-    let Some(kind) = kind(lines.next().unwrap_or("")) else {
-        return Err(Refusal::Line(1, Expected::Pattern));
-    };
-    let mut at = 2;
-    let mut p = Proposition { on: 0, off: 0 };
-    if kind.has_first() {
-        let Some(first) = proposition("P", lines.next().unwrap_or("")) else {
-            return Err(Refusal::Line(at, Expected::First));
-        };
-        p = first;
-        at = 3;
-    }
-    let Some(q) = proposition("Q", lines.next().unwrap_or("")) else {
-        return Err(Refusal::Line(at, Expected::Second));
-    };
-    let Some(stem) = list(heap, "stem", lines.next().unwrap_or(""))? else {
-        return Err(Refusal::Line(at + 1, Expected::Stem));
-    };
-    let Some(cycle) = list(heap, "loop", lines.next().unwrap_or(""))? else {
-        return Err(Refusal::Line(at + 2, Expected::Loop));
-    };
-    if cycle.is_empty() {
-        return Err(Refusal::Line(at + 2, Expected::Loop));
-    }
-    match lines.next() {
-        None => Ok(Input {
-            pattern: AnyPattern::new(kind, p, q),
-            stem,
-            cycle,
+fn proposition(name: &str, words: &[&str]) -> Option<Proposition> {
+    match *words {
+        [first, "on", on, "off", off] if first == name => Some(Proposition {
+            on: hex(on)?,
+            off: hex(off)?,
         }),
-        Some(_) => Err(Refusal::Line(at + 3, Expected::End)),
+        _ => None,
     }
+}
+
+fn list(alloc: Global, name: &str, words: &[&str]) -> Result<Option<Vec<Word>>, AllocError> {
+    match words {
+        [first, list @ ..] if *first == name => list.iter().map(|word| hex(word)).collect(alloc),
+        _ => Ok(None),
+    }
+}
+
+pub(crate) fn parse(alloc: Global, text: &str) -> Result<Input, Refusal> {
+    let mut lines = Lines::new(text);
+    let kind = lines.expect(alloc, Expected::Pattern, |words| Ok(kind(words)))?;
+    let p = if kind.has_first() {
+        lines.expect(alloc, Expected::First, |words| Ok(proposition("P", words)))?
+    } else {
+        Proposition { on: 0, off: 0 }
+    };
+    let q = lines.expect(alloc, Expected::Second, |words| Ok(proposition("Q", words)))?;
+    let stem = lines.expect(alloc, Expected::Stem, |words| list(alloc, "stem", words))?;
+    let cycle = lines.expect(alloc, Expected::Loop, |words| {
+        Ok(list(alloc, "loop", words)?.filter(|list| !list.is_empty()))
+    })?;
+    lines.end()?;
+    Ok(Input {
+        pattern: AnyPattern::new(kind, p, q),
+        stem,
+        cycle,
+    })
 }

@@ -24,17 +24,10 @@ fn tint_name(tint: Tint) -> &'static str {
     }
 }
 
-// A line for each word, from a place on; answers what the watch says at the last.
-fn trace(
-    rt: &HostRuntime,
-    pattern: &AnyPattern,
-    from: u64,
-    before: Told,
-    words: &[Word],
-) -> io::Result<Told> {
-    let mut place = from;
-    let mut told = before;
-    for word in words {
+// A line for each place of the stem and of two turns of the loop.
+fn trace(rt: &HostRuntime, pattern: &AnyPattern, stem: &[Word], cycle: &[Word]) -> io::Result<()> {
+    let mut told = Told::Mark(0);
+    for (place, word) in stem.iter().chain(cycle).chain(cycle).enumerate() {
         let word = *word;
         told = onward(pattern, told, word);
         match told {
@@ -45,9 +38,8 @@ fn trace(
                 println!(rt; "place {place} word {word:04x} mark {mark} {tint}")?
             }
         }
-        place = place.saturating_add(1);
     }
-    Ok(told)
+    Ok(())
 }
 
 fn show(
@@ -57,19 +49,15 @@ fn show(
     cycle: &[Word],
 ) -> anyhow::Result<()> {
     let kept = keeps(pattern, stem, cycle)?;
-    let first = stem.len() as u64;
-    let second = first.saturating_add(cycle.len() as u64);
-    let told = trace(rt, pattern, 0, Told::Mark(0), stem)?;
-    let told = trace(rt, pattern, first, told, cycle)?;
-    trace(rt, pattern, second, told, cycle)?;
+    trace(rt, pattern, stem, cycle)?;
     rt.println(if kept { "keeps" } else { "breaks" })?;
     Ok(())
 }
 
 fn run(rt: &HostRuntime) -> anyhow::Result<()> {
-    let heap = rt.alloc();
-    let text = io::read_to_string(heap, rt.stdin().take(MOST))?;
-    let input = parse(heap, text.as_str())?;
+    let alloc = rt.alloc();
+    let text = io::read_to_string(alloc, rt.stdin().take(MOST))?;
+    let input = parse(alloc, text.as_str())?;
     show(
         rt,
         &input.pattern,

@@ -1,11 +1,11 @@
 -- The grounds of the three watches with two marks. What a mark says goes by whether it is 1.
 use Rattle.std.specs.Prelude.{◌≡◌, ℕ, suc, ◌<◌, ◌≤◌, max, Bool, true, false, ◌==◌, ◌≢◌, refl}
 use Rattle.std.proofs.Common.{inl, inr, arith}
-use Rattle.patterns.specs.Rules.{At, KeepsUntilStable, KeepsLeadsTo, KeepsConditionalStable}
-use Rattle.patterns.specs.Tables.{until_stable_row, until_stable_tint, leads_to_row, leads_to_tint, conditional_stable_row, conditional_stable_tint}
-use Rattle.patterns.specs.declared.watch.Tint.TheVariants.{Sore, Relief}
-use Rattle.patterns.specs.Settle.{sides, one_more}
-use Rattle.patterns.specs.Watching.{Grounds, Means, clash}
+use Rattle.watches.specs.Rules.{At, KeepsUntilStable, KeepsLeadsTo, KeepsConditionalStable}
+use Rattle.watches.specs.Tables.{until_stable_row, until_stable_tint, leads_to_row, leads_to_tint, conditional_stable_row, conditional_stable_tint}
+use Rattle.watches.specs.declared.Tint.TheVariants.{Sore, Relief}
+use Rattle.watches.proofs.Settle.{sides, one_more}
+use Rattle.watches.proofs.Watching.{Grounds, Means, clash}
 
 -- a property of the places from a to n, one place more
 span_more : (P : ℕ → Type 0) (a n : ℕ) → ((i : ℕ) → a ≤ i → i < n → P i) → P n → (i : ℕ) → a ≤ i → i < suc n → P i

@@ -3,12 +3,12 @@ use Rattle.std.specs.Prelude.{◌≡◌, ℕ, zero, suc, ◌+◌, ◌-◌, ◌*�
 use Rattle.std.proofs.Math.Logic.{inl, inr}
 use Rattle.std.proofs.Math.Path.{sym, ap, subst}
 use Rattle.std.proofs.Common.{◌∙◌, ap₂, add-mul, le-mul_of_pos_right, arith}
-use Rattle.patterns.specs.Watch.{onward, fed, after, StaysSore, Rejects, MarkBelow}
-use Rattle.patterns.specs.declared.watch.Told.{Told}
-use Rattle.patterns.specs.declared.watch.Told.TheVariants.{Kept, Broken, Mark}
-use Rattle.patterns.specs.declared.watch.Tint.{Tint}
-use Rattle.patterns.specs.declared.watch.Tint.TheVariants.{Calm, Sore, Relief}
-use Rattle.patterns.specs.Settle.{Repeats, again_many, pigeons, settle, some_or_none}
+use Rattle.watches.specs.Watch.{onward, fed, after, StaysSore, Rejects, MarkBelow}
+use Rattle.watches.specs.declared.Told.{Told}
+use Rattle.watches.specs.declared.Told.TheVariants.{Kept, Broken, Mark}
+use Rattle.watches.specs.declared.Tint.{Tint}
+use Rattle.watches.specs.declared.Tint.TheVariants.{Calm, Sore, Relief}
+use Rattle.watches.proofs.Settle.{Repeats, again_many, pigeons, settle, some_or_none}
 
 -- what an answer says of the path rule; of a mark, that it is reached
 abbrev pub Means : Type 0 → (ℕ → Type 0) → Told → Type 0

@@ -1,12 +1,12 @@
 -- A watch that is always calm does not show the law.
 use Rattle.std.proofs.Common.{◌≡◌, ℕ, zero, suc, Bool, false, [], ◌∷◌, refl, ap, inl, inr, arith}
-use Rattle.patterns.specs.Rules.{KeepsEventual}
-use Rattle.patterns.specs.Tables.{eventual_row}
-use Rattle.patterns.specs.Watch.{Lawful, Rejects, fed, onward}
+use Rattle.watches.specs.Rules.{KeepsEventual}
+use Rattle.watches.specs.Tables.{eventual_row}
+use Rattle.watches.specs.Watch.{Lawful, Rejects, fed, onward}
 use Rattle.graph.specs.Lassos.{lasso}
-use Rattle.patterns.specs.declared.watch.Told.TheVariants.{Mark}
-use Rattle.patterns.specs.declared.watch.Tint.TheVariants.{Calm}
-use Rattle.patterns.specs.Watching.{clash}
+use Rattle.watches.specs.declared.Told.TheVariants.{Mark}
+use Rattle.watches.specs.declared.Tint.TheVariants.{Calm}
+use Rattle.watches.proofs.Watching.{clash}
 
 abbrev never : ℕ → Bool
 never x = false

@@ -1,11 +1,11 @@
 -- The grounds of the three watches with one mark.
 use Rattle.std.specs.Prelude.{◌≡◌, ℕ, suc, ◌<◌, Bool, true, false, refl}
 use Rattle.std.proofs.Common.{inl, inr, arith}
-use Rattle.patterns.specs.Rules.{At, KeepsAlways, KeepsEventual, KeepsUntil}
-use Rattle.patterns.specs.Tables.{always_row, eventual_row, until_row}
-use Rattle.patterns.specs.declared.watch.Tint.TheVariants.{Calm, Sore}
-use Rattle.patterns.specs.Settle.{sides, one_more}
-use Rattle.patterns.specs.Watching.{Grounds, Means, clash}
+use Rattle.watches.specs.Rules.{At, KeepsAlways, KeepsEventual, KeepsUntil}
+use Rattle.watches.specs.Tables.{always_row, eventual_row, until_row}
+use Rattle.watches.specs.declared.Tint.TheVariants.{Calm, Sore}
+use Rattle.watches.proofs.Settle.{sides, one_more}
+use Rattle.watches.proofs.Watching.{Grounds, Means, clash}
 
 module _ (q : ℕ → Bool) (w : ℕ → ℕ) where
   abbrev KeptSoFar : ℕ → ℕ → Type 0

@@ -1,9 +1,9 @@
 -- The steps and tints of the six watches. A row goes by whether the mark is 1, whether P holds and whether Q holds.
 use Rattle.std.specs.Prelude.{Bool, true, false}
-use Rattle.patterns.specs.declared.watch.Told.{Told}
-use Rattle.patterns.specs.declared.watch.Told.TheVariants.{Kept, Broken, Mark}
-use Rattle.patterns.specs.declared.watch.Tint.{Tint}
-use Rattle.patterns.specs.declared.watch.Tint.TheVariants.{Calm, Sore, Relief}
+use Rattle.watches.specs.declared.Told.{Told}
+use Rattle.watches.specs.declared.Told.TheVariants.{Kept, Broken, Mark}
+use Rattle.watches.specs.declared.Tint.{Tint}
+use Rattle.watches.specs.declared.Tint.TheVariants.{Calm, Sore, Relief}
 
 abbrev pub always_row : Bool → Told
 always_row true = Mark 0

@@ -1,18 +1,18 @@
 -- The law of each of the six watches, from its grounds.
 use Rattle.std.specs.Prelude.{◌≡◌, ℕ, ◌<◌, ◌≤◌, Bool, true, false, ◌⊎◌, List, length, ◌==◌, refl}
 use Rattle.std.proofs.Common.{ap, arith, eqb-true, inl, inr}
-use Rattle.patterns.specs.Watch.{Lawful, Breaks, Rejects, MarkBelow}
-use Rattle.patterns.specs.Rules.{KeepsAlways, KeepsEventual, KeepsUntil, KeepsUntilStable, KeepsLeadsTo, KeepsConditionalStable}
-use Rattle.patterns.specs.Tables.{always_row, eventual_row, until_row, until_stable_row, until_stable_tint, leads_to_row, leads_to_tint, conditional_stable_row, conditional_stable_tint}
+use Rattle.watches.specs.Watch.{Lawful, Breaks, Rejects, MarkBelow}
+use Rattle.watches.specs.Rules.{KeepsAlways, KeepsEventual, KeepsUntil, KeepsUntilStable, KeepsLeadsTo, KeepsConditionalStable}
+use Rattle.watches.specs.Tables.{always_row, eventual_row, until_row, until_stable_row, until_stable_tint, leads_to_row, leads_to_tint, conditional_stable_row, conditional_stable_tint}
 use Rattle.graph.specs.Lassos.{lasso}
-use Rattle.patterns.specs.declared.watch.Told.{Told}
-use Rattle.patterns.specs.declared.watch.Told.TheVariants.{Kept, Broken, Mark}
-use Rattle.patterns.specs.declared.watch.Tint.{Tint}
-use Rattle.patterns.specs.declared.watch.Tint.TheVariants.{Calm, Sore}
-use Rattle.patterns.specs.Settle.{tell, lasso_repeats}
-use Rattle.patterns.specs.Watching.{Grounds, from_rejects, verdict}
-use Rattle.patterns.specs.Simple.{always_grounds, eventual_grounds, until_grounds}
-use Rattle.patterns.specs.Marked.{until_stable_grounds, leads_to_grounds, conditional_stable_grounds}
+use Rattle.watches.specs.declared.Told.{Told}
+use Rattle.watches.specs.declared.Told.TheVariants.{Kept, Broken, Mark}
+use Rattle.watches.specs.declared.Tint.{Tint}
+use Rattle.watches.specs.declared.Tint.TheVariants.{Calm, Sore}
+use Rattle.watches.proofs.Settle.{tell, lasso_repeats}
+use Rattle.watches.proofs.Watching.{Grounds, from_rejects, verdict}
+use Rattle.watches.proofs.Simple.{always_grounds, eventual_grounds, until_grounds}
+use Rattle.watches.proofs.Marked.{until_stable_grounds, leads_to_grounds, conditional_stable_grounds}
 
 widen : (a b : ℕ) → a ≤ b → (t : Told) → MarkBelow a t → MarkBelow b t
 widen a b h Kept k = tt

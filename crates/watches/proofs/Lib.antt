@@ -1,0 +1,6 @@
+pub mod Settle
+pub mod Watching
+pub mod Simple
+pub mod Marked
+pub mod Laws
+mod AlwaysCalm

@@ -1,0 +1,3 @@
+pub mod Watch
+pub mod Rules
+pub mod Tables
