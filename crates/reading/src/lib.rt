@@ -1,7 +1,9 @@
 // A layer that sets one bit of each word by a mask, over any source.
 #![tactic(auto)]
 
-ghost use Rattle.std.specs.Prelude.{◌≡◌, ◌<◌};
+ghost use Rattle.std.specs.Prelude.{◌≡◌, ◌<◌, nat_lt};
+ghost use Rattle.std.specs.Bool.{then_some};
+ghost use Rattle.std.specs.Option.{option_copied};
 ghost use Rattle.graph.specs.Graph.{word_bits};
 ghost use Rattle.meanings.specs.Reading.{reread, reading};
 ghost use Rattle.meanings.proofs.ReadingSound.{reading_sound};
@@ -9,6 +11,7 @@ ghost use Rattle.meanings.proofs.ReadingSound.{reading_sound};
 use graph::fault::{Cause, Fault};
 use graph::source::Source;
 use graph::{State, WORD_BITS, Word};
+use meanings::fields::test;
 
 // In each word from below, the bit is set if the word has any bit of the mask, and cleared otherwise.
 #[derive(Drop)]
@@ -25,82 +28,68 @@ impl<S: Source> Reading<S> {
     {
         Reading { below, bit, mask }
     }
-}
 
-fn reread_word(bit: u8, mask: Word, word: Word) -> Word
-    requires { bit < word_bits }
-    ensures { result ≡ reread bit mask word }
-{
-    let one = (1 as Word) << bit;
-    if word & mask == 0 {
-        word & (Word::MAX ^ one)
-    } else {
-        word | one
+    fn has_bit(&self) -> bool
+        ensures { result ≡ nat_lt self.now.bit word_bits }
+    {
+        self.bit < WORD_BITS
+    }
+
+    // The source below, if words have the bit.
+    fn base(&self) -> Option<&S>
+        ensures { option_copied result ≡ then_some (nat_lt self.now.bit word_bits) self.now.below }
+    {
+        self.has_bit().then_some(&self.below)
+    }
+
+    #[tactic(auto, using(crate::proofs::Complements::all_but))]
+    fn reread(&self, word: Word) -> Word
+        requires { self.now.bit < word_bits }
+        ensures { result ≡ reread self.now.bit self.now.mask word }
+    {
+        let one = (1 as Word) << self.bit;
+        if word & self.mask == 0 {
+            word & !one
+        } else {
+            word | one
+        }
     }
 }
 
 impl<S: Source> Source for Reading<S> {
     ghost meaning = { λ r. reading r.bit r.mask (S.Source.meaning r.below) };
 
-    ghost sound = { λ r. reading_sound r.bit r.mask (S.Source.meaning r.below) (S.Source.sound r.below) };
-
     fn check(&self) -> Result<(), Fault> {
-        match self.below.check() {
-            Err(f) => Err(f.raise()),
-            Ok(_) if self.bit < WORD_BITS => Ok(()),
-            Ok(_) => Err(Fault {
-                cause: Cause::Range,
-                place: 0,
-                height: 0,
-            }),
-        }
+        self.below.check().map_err(Fault::raise)?;
+        test(self.has_bit(), Cause::Range, 0)
     }
 
     fn states(&self) -> u16 {
-        if self.bit < WORD_BITS {
-            self.below.states()
-        } else {
-            0
-        }
+        self.base().map_or(0, |below| below.states())
     }
 
     fn width(&self) -> u16 {
-        if self.bit < WORD_BITS {
-            self.below.width()
-        } else {
-            0
-        }
+        self.base().map_or(0, |below| below.width())
     }
 
     fn initial(&self, s: State) -> bool {
-        if self.bit < WORD_BITS {
-            self.below.initial(s)
-        } else {
-            false
-        }
+        self.base().is_some_and(|below| below.initial(s))
     }
 
     fn word(&self, s: State) -> Word {
-        if self.bit < WORD_BITS {
-            reread_word(self.bit, self.mask, self.below.word(s))
-        } else {
-            0
-        }
+        let Some(below) = self.base() else {
+            return 0;
+        };
+        self.reread(below.word(s))
     }
 
     fn degree(&self, s: State) -> u16 {
-        if self.bit < WORD_BITS {
-            self.below.degree(s)
-        } else {
-            0
-        }
+        self.base().map_or(0, |below| below.degree(s))
     }
 
     fn arrow(&self, s: State, j: u16) -> Option<State> {
-        if self.bit < WORD_BITS {
-            self.below.arrow(s, j)
-        } else {
-            None
-        }
+        self.base()?.arrow(s, j)
     }
+
+    ghost sound = { λ r. reading_sound r.bit r.mask (S.Source.meaning r.below) (S.Source.sound r.below) };
 }

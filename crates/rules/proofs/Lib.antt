@@ -1,4 +1,2 @@
-pub mod ListReads
-pub mod Masks
-pub mod RuleReads
+pub mod RulesSoFar
 pub mod Targets

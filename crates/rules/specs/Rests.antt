@@ -2,7 +2,10 @@
 use Rattle.std.specs.Prelude.{◌≡◌, ℕ, ◌≤◌, Bool, cond, List, length, drop, None, ◌==◌, bit_and}
 use Rattle.graph.specs.Bytes.{pair}
 use Rattle.meanings.specs.declared.Rule.{Rule}
-use Rattle.meanings.specs.RuleList.{masks, masks_size, front_rule, behind_rule, from_rule, rules, bits, count, start, rules_at, body, header_fault, list_fault}
+use Rattle.meanings.specs.RuleList.{masks, masks_size, front_rule, behind_rule, from_rule, rules, bits, count, start, body, header_fault, list_fault}
+
+abbrev pub has_bit : ℕ → ℕ → Bool
+has_bit map bit = bit_and map bit == bit
 
 abbrev pub mask_size : Bool → ℕ
 mask_size stands = cond stands 2 0
@@ -27,18 +30,22 @@ pub record RulesRead (l : List ℕ) (n : ℕ) (read : List Rule) (rest : List �
 
 -- where the rules of a list begin, and its initial value, by its map byte
 abbrev pub after_header : ℕ → ℕ
-after_header map = cond (bit_and map 1 == 1) 5 3
+after_header map = cond (has_bit map 1) 5 3
 
 abbrev pub start_by : ℕ → List ℕ → ℕ
-start_by map b = cond (bit_and map 1 == 1) (pair b 3) 0
+start_by map b = cond (has_bit map 1) (pair b 3) 0
+
+pub record StartRead (map : ℕ) (b : List ℕ) (first : ℕ) (rest : List ℕ) : Type 0 where
+  pub start_is : first ≡ start_by map b
+  pub rest_is : rest ≡ drop (after_header map) b
 
 -- the header of a rule list has no fault
-pub record HeaderRead (b : List ℕ) (width n first at : ℕ) : Type 0 where
+pub record HeaderRead (b : List ℕ) (width n first : ℕ) (rest : List ℕ) : Type 0 where
   pub no_fault : header_fault b ≡ None
   pub bits_is : width ≡ bits b
   pub count_is : n ≡ count b
   pub start_is : first ≡ start b
-  pub at_is : at ≡ rules_at b
+  pub rest_is : rest ≡ body b
 
 -- nor has the whole list
 pub record ListRead (b : List ℕ) (width first : ℕ) (read : List Rule) : Type 0 where

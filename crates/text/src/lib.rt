@@ -1,126 +1,103 @@
 // A graph as a text that people read, write and compare.
 #![tactic(auto)]
 
-ghost use Rattle.std.specs.Prelude.{◌≡◌, ◌<◌, ◌≤◌, [], ◌∷◌, IfOk, string_bytes, decimal, OnOk};
-ghost use Rattle.text.specs.Adds.{Adds};
-ghost use Rattle.text.specs.GraphText.{hex_digit, word_text, target_text, targets_text, initial_text, state_text, states_text, arrows, columns_names, columns_text, graph_text};
+ghost use Rattle.std.specs.Prelude.{◌≡◌, IfOk, Some, string_bytes};
+ghost use Rattle.text.specs.GraphText.{target_text, targets_text, initial_text, state_text, states_text, arrows, columns_names, columns_text, graph_text};
 
+use graph::State;
 use graph::source::Source;
-use graph::{State, Word};
 use meanings::Columns;
 use std::alloc::{AllocError, Global};
+use std::fmt;
 
-fn put(out: &mut String, text: &str) -> Result<(), AllocError>
-    ensures { OnOk result (Adds (string_bytes out.old) text.now (string_bytes out.new)) }
-{
-    out.push_str(text)
-}
+// Where an arrow leads, if anywhere.
+#[derive(Drop)]
+struct Target(Option<State>);
 
-fn put_number(out: &mut String, n: u32) -> Result<(), AllocError>
-    ensures { OnOk result (Adds (string_bytes out.old) (decimal n) (string_bytes out.new)) }
-{
-    match write!(out, "{n}") {
-        Ok(()) => Ok(()),
-        Err(_) => Err(AllocError),
+impl fmt::Display for Target {
+    ghost output = { λ t. Some (target_text t.0) };
+
+    fn fmt<W: fmt::Write>(&self, f: &mut fmt::Formatter<W>) -> fmt::Result {
+        match self.0 {
+            Some(state) => write!(f, " {state}"),
+            None => Ok(()),
+        }
     }
 }
 
-fn digit(d: u8) -> char
-    requires { d < 16 }
-    ensures { (result ≡ hex_digit d) × (result < 128) }
-{
-    if d < 10 {
-        (b'0' + d) as char
-    } else {
-        (b'a' + (d - 10)) as char
-    }
+// Where the arrows of a state lead.
+#[derive(Drop)]
+struct Targets<'a, S> {
+    source: &'a S,
+    state: State,
 }
 
-fn put_digit(out: &mut String, d: u8) -> Result<(), AllocError>
-    requires { d < 16 }
-    ensures { OnOk result (Adds (string_bytes out.old) (hex_digit d ∷ []) (string_bytes out.new)) }
-{
-    out.push(digit(d))
-}
+impl<S: Source> fmt::Display for Targets<'_, S> {
+    ghost output = { λ t. let g = S.meaning t.source.now in Some (targets_text g t.state (g.degree t.state)) };
 
-// Four hexadecimal digits.
-fn put_word(out: &mut String, w: Word) -> Result<(), AllocError>
-    ensures { OnOk result (Adds (string_bytes out.old) (word_text w) (string_bytes out.new)) }
-{
-    put_digit(out, (w / 4096 % 16) as u8)?;
-    put_digit(out, (w / 256 % 16) as u8)?;
-    put_digit(out, (w / 16 % 16) as u8)?;
-    put_digit(out, (w % 16) as u8)?;
-    Ok(())
-}
-
-fn put_target(out: &mut String, target: Option<State>) -> Result<(), AllocError>
-    ensures { OnOk result (Adds (string_bytes out.old) (target_text target) (string_bytes out.new)) }
-{
-    if let Some(t) = target {
-        put(out, " ")?;
-        put_number(out, t as u32)?;
-    }
-    Ok(())
-}
-
-fn put_targets<S: Source>(out: &mut String, source: &S, s: State) -> Result<(), AllocError>
-    ensures { OnOk result (Adds (string_bytes out.old) (targets_text (S.Source.meaning source.now) s ((S.Source.meaning source.now).degree s)) (string_bytes out.new)) }
-{
-    for j in 0..source.degree(s) {
-        put_target(out, source.arrow(s, j))?;
-    }
-    Ok(())
-}
-
-fn put_initial(out: &mut String, initial: bool) -> Result<(), AllocError>
-    ensures { OnOk result (Adds (string_bytes out.old) (initial_text initial) (string_bytes out.new)) }
-{
-    if initial {
-        put(out, " initial")
-    } else {
+    fn fmt<W: fmt::Write>(&self, f: &mut fmt::Formatter<W>) -> fmt::Result {
+        for j in 0..self.source.degree(self.state) {
+            let target = Target(self.source.arrow(self.state, j));
+            write!(f, "{target}")?;
+        }
         Ok(())
     }
 }
 
-fn put_state<S: Source>(out: &mut String, source: &S, s: State) -> Result<(), AllocError>
-    ensures { OnOk result (Adds (string_bytes out.old) (state_text (S.Source.meaning source.now) s) (string_bytes out.new)) }
+fn initial_mark(initial: bool) -> &'static str
+    ensures { result.now ≡ initial_text initial }
 {
-    put(out, "state ")?;
-    put_number(out, s as u32)?;
-    put_initial(out, source.initial(s))?;
-    put(out, " word ")?;
-    put_word(out, source.word(s))?;
-    put(out, " to")?;
-    put_targets(out, source, s)?;
-    put(out, "\n")?;
-    Ok(())
+    if initial { " initial" } else { "" }
 }
 
-fn put_states<S: Source>(out: &mut String, source: &S) -> Result<(), AllocError>
-    ensures { OnOk result (Adds (string_bytes out.old) (states_text (S.Source.meaning source.now) (S.Source.meaning source.now).states) (string_bytes out.new)) }
-{
-    for s in 0..source.states() {
-        put_state(out, source, s)?;
+// The line of a state.
+#[derive(Drop)]
+struct StateLine<'a, S> {
+    source: &'a S,
+    state: State,
+}
+
+impl<S: Source> fmt::Display for StateLine<'_, S> {
+    ghost output = { λ l. Some (state_text (S.meaning l.source.now) l.state) };
+
+    #[tactic(auto, using(crate::proofs::Hex::padded_hex))]
+    fn fmt<W: fmt::Write>(&self, f: &mut fmt::Formatter<W>) -> fmt::Result {
+        let state = self.state;
+        let initial = initial_mark(self.source.initial(state));
+        let word = self.source.word(state);
+        let targets = Targets {
+            source: self.source,
+            state,
+        };
+        writeln!(f, "state {state}{initial} word {word:04x} to{targets}")
     }
-    Ok(())
 }
 
-// How many arrows the graph has.
-fn count_arrows<S: Source>(source: &S) -> u32
-    ensures { result ≡ arrows (S.Source.meaning source.now) (S.Source.meaning source.now).states }
-{
-    let mut n: u32 = 0;
-    for s in 0..source.states() {
-        n += source.degree(s) as u32;
+// The lines of all states.
+#[derive(Drop)]
+struct StateLines<'a, S> {
+    source: &'a S,
+}
+
+impl<S: Source> fmt::Display for StateLines<'_, S> {
+    ghost output = { λ l. let g = S.meaning l.source.now in Some (states_text g g.states) };
+
+    fn fmt<W: fmt::Write>(&self, f: &mut fmt::Formatter<W>) -> fmt::Result {
+        for state in 0..self.source.states() {
+            let line = StateLine {
+                source: self.source,
+                state,
+            };
+            write!(f, "{line}")?;
+        }
+        Ok(())
     }
-    n
 }
 
-fn columns_line(c: Columns) -> &'static str
-    ensures { result.now ≡ columns_names c.words c.initials }
+fn columns_names(columns: Columns) -> &'static str
+    ensures { result.now ≡ columns_names columns.words columns.initials }
 {
-    match (c.words, c.initials) {
+    match (columns.words, columns.initials) {
         (true, true) => "columns words initial",
         (true, false) => "columns words",
         (false, true) => "columns initial",
@@ -128,31 +105,44 @@ fn columns_line(c: Columns) -> &'static str
     }
 }
 
-fn put_columns(out: &mut String, columns: Option<Columns>) -> Result<(), AllocError>
-    ensures { OnOk result (Adds (string_bytes out.old) (columns_text columns) (string_bytes out.new)) }
-{
-    if let Some(c) = columns {
-        put(out, columns_line(c))?;
-        put(out, "\n")?;
+// The line of the columns that stand, where the graph comes from a table.
+#[derive(Drop)]
+struct ColumnsLine(Option<Columns>);
+
+impl fmt::Display for ColumnsLine {
+    ghost output = { λ l. Some (columns_text l.0) };
+
+    fn fmt<W: fmt::Write>(&self, f: &mut fmt::Formatter<W>) -> fmt::Result {
+        match self.0 {
+            Some(columns) => {
+                let names = columns_names(columns);
+                writeln!(f, "{names}")
+            }
+            None => Ok(()),
+        }
     }
-    Ok(())
+}
+
+// How many arrows the graph has.
+fn count_arrows<S: Source>(source: &S) -> u32
+    ensures { let g = S.meaning source.now in result ≡ arrows g g.states }
+{
+    (0..source.states())
+        .map(|state| u32::from(source.degree(state)))
+        .sum()
 }
 
 // The text of the graph that a source tells. Which columns stand is told of a table only.
 pub fn describe<S: Source>(
-    heap: Global,
+    alloc: Global,
     source: &S,
     columns: Option<Columns>,
 ) -> Result<String, AllocError>
-    ensures { IfOk result (λ t. string_bytes t ≡ graph_text columns (S.Source.meaning source.now)) }
+    ensures { IfOk result (λ t. string_bytes t ≡ graph_text columns (S.meaning source.now)) }
 {
-    let mut out = String::new(heap);
-    put(&mut out, "states ")?;
-    put_number(&mut out, source.states() as u32)?;
-    put(&mut out, "\narrows ")?;
-    put_number(&mut out, count_arrows(source))?;
-    put(&mut out, "\n")?;
-    put_columns(&mut out, columns)?;
-    put_states(&mut out, source)?;
-    Ok(out)
+    let states = source.states();
+    let arrows = count_arrows(source);
+    let columns = ColumnsLine(columns);
+    let lines = StateLines { source };
+    format!(in alloc; "states {states}\narrows {arrows}\n{columns}{lines}")
 }
