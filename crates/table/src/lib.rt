@@ -289,6 +289,7 @@ impl<'a> Table<'a> {
     }
 }
 
+#[tactic(auto, using(crate::proofs::Questions::questions))]
 impl Source for Table<'_> {
     ghost meaning = { λ t. table t.bytes.now };
 
