@@ -276,19 +276,20 @@ impl<'a> Table<'a> {
     }
 
     // The layout, if the state is there.
-    fn holding(&self, s: State) -> Option<Layout<'a>>
+    fn holding(&self, s: State) -> Option<&Layout<'a>>
         ensures missing { IfNone result ((table self.now.bytes.now).states ≤ s) }
         ensures there { OnSome result (s < count self.now.bytes.now) }
         ensures tested { OnSome result (table_fault self.now.bytes.now ≡ None) }
-        ensures same_bytes { IfSome result (λ l. l.bytes.now ≡ self.now.bytes.now) }
+        ensures same_bytes { IfSome result (λ l. l.now.bytes.now ≡ self.now.bytes.now) }
     {
-        match self.layout {
+        match &self.layout {
             Ok(layout) if s < layout.states => Some(layout),
             _ => None,
         }
     }
 }
 
+#[tactic(auto, using(crate::proofs::Questions::questions))]
 impl Source for Table<'_> {
     ghost meaning = { λ t. table t.bytes.now };
 
