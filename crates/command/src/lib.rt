@@ -50,6 +50,7 @@ pub fn finish<E: fmt::Display + Drop>(
 mod tests {
     use super::*;
     use std::alloc::AllocError;
+    use std::cell::RefCell;
     use std::test::Fail;
 
     #[test]
@@ -66,12 +67,38 @@ mod tests {
         Ok(())
     }
 
+    // Standard error that keeps its text.
+    #[derive(Drop)]
+    struct Screen {
+        text: RefCell<String>,
+    }
+
+    impl Eprint for Screen {
+        fn eprint<D: fmt::Display + Drop>(&self, value: D) -> io::Result<()> {
+            let Ok(mut text) = self.text.try_borrow_mut() else {
+                return Err(io::Error::from(io::ErrorKind::Other));
+            };
+            write!(text, "{value}")?;
+            Ok(())
+        }
+
+        fn eprintln<D: fmt::Display + Drop>(&self, value: D) -> io::Result<()> {
+            self.eprint(value)?;
+            self.eprint("\n")
+        }
+    }
+
     #[test]
     fn finishes(rt: HostRuntime) -> Result<(), Fail> {
+        let screen = Screen {
+            text: RefCell::new(String::new(rt.alloc())),
+        };
         let success: Result<(), AllocError> = Ok(());
         let failure: Result<(), AllocError> = Err(AllocError);
-        assert!(rt; finish(&rt, "command", success) == ExitCode::SUCCESS);
-        assert!(rt; finish(&rt, "command", failure) == ExitCode::FAILURE);
+        assert!(rt; finish(&screen, "command", success) == ExitCode::SUCCESS);
+        assert!(rt; finish(&screen, "command", failure) == ExitCode::FAILURE);
+        let text = screen.text.into_inner();
+        assert_eq!(rt; text.as_str(), "command: memory allocation failed\n");
         Ok(())
     }
 }
