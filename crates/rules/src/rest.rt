@@ -92,6 +92,7 @@ impl<'a> Rest<'a> {
         ensures same { self.new.len ≡ self.old.len }
     {
         let mut rules = RuleArray::new();
+        // A loop, since the first fault ends it.
         for _i in 0..count {
             rules.push(self.rule()?);
         }
