@@ -10,11 +10,14 @@ use Rattle.text.proofs.count_arrows.Goals as goal
 pub sum-requires-clause-fits : goal.sum-requires-clause-fits
 sum-requires-clause-fits g c =
     let n = c.states.result in
-    fits_from_length _ _ 65535 _ (at_most_from_yields_List (YieldsList-from_range 0 n n (cc) (omega arith)) (omega (arith, length-range_with_len 0 n))) c.map.ensures.closure (omega arith) (λ x r q k. search (rules, tests))
+    fits_from_length _ _ 65535 _
+    (at_most_from_yields_List (YieldsList-from_range 0 n n (cc) (omega arith)) (omega (arith, length-range_with_len 0 n)))
+    c.map.ensures.closure (omega arith) (λ x r q k. search (rules, tests))
 
 pub returns : goal.returns
 returns g c =
     let m = g.S.Source.meaning c.args.source.now in
     let n = c.states.result in
-    sum_from_yields_List c.map.result _ c.sum.ensures.ran (YieldsList-from_map _ m.degree (YieldsList-from_range 0 n n (cc) (omega arith)) c.map.ensures.closure (λ x r q k. search rules))
+    sum_from_yields_List c.map.result _ c.sum.ensures.ran
+    (YieldsList-from_map _ m.degree (YieldsList-from_range 0 n n (cc) (omega arith)) c.map.ensures.closure (λ x r q k. search rules))
     ∙ sum-degrees m n ∙ ap (arrows m) c.states.ensures
