@@ -78,6 +78,7 @@ impl Pattern for AnyPattern {
       | ConditionalStable x ↦ conditional_stable_law (test x.p) (test x.q)
     ] };
 
+    // Two matches: a trait with a constant makes no `dyn`, so that nothing stands for the six but this enum.
     fn step(&self, mark: u8, word: Word) -> Told {
         match self {
             AnyPattern::Always(x) => x.step(mark, word),

@@ -75,6 +75,7 @@ impl FromStr for Kind {
 
     ghost from_str_gives = { NamesKind };
 
+    // The inverse of `name`, spelled out as that of the numbers is.
     fn from_str(name: &str) -> Result<Kind, UnknownKind> {
         match name {
             "always" => Ok(Kind::Always),

@@ -1,4 +1,5 @@
 // The six patterns of linear temporal logic, each with its path rule and its watch.
+// Each file has the same members in the same order. No two agree in the right sides, so a common piece would share names alone.
 #![tactic(auto)]
 
 pub mod always;

@@ -1,6 +1,6 @@
 // Propositions over words.
 ghost use Rattle.std.specs.Prelude.{◌≡◌, IsTrue, ◌↔◌};
-ghost use Rattle.patterns.specs.Words.{test, Holds};
+ghost use Rattle.patterns.specs.Words.{has, test, Holds};
 
 use graph::Word;
 
@@ -11,11 +11,18 @@ pub struct Proposition {
     pub off: Word,
 }
 
+// Not within `holds`: there a wrong body fails in the proof of `bits` first, and not in a clause.
+fn has(on: Word, off: Word, word: Word) -> bool
+    ensures { result ≡ has on off word }
+{
+    word & on == on && word & off == 0
+}
+
 impl Proposition {
     pub fn holds(self, word: Word) -> bool
         ensures value { result ≡ test self word }
         ensures bits { IsTrue result ↔ Holds self word }
     {
-        word & self.on == self.on && word & self.off == 0
+        has(self.on, self.off, word)
     }
 }
