@@ -7,31 +7,18 @@ ghost use Rattle.records.specs.Tests.{unless};
 use std::error::Error;
 use std::fmt;
 
+// The discriminant is the number by which the refusal is filed.
 #[derive(Clone, Copy, PartialEq, Eq, Debug)]
 pub enum Refusal {
-    ListShort,
-    Ends,
-    Map,
-    Value,
-    LeftOver,
-    OutputShort,
+    ListShort = 28,
+    Ends = 31,
+    Map = 32,
+    Value = 33,
+    LeftOver = 34,
+    OutputShort = 35,
 }
 
 impl Refusal {
-    // The number by which the refusal is filed.
-    pub fn number(self) -> u8
-        ensures { result ≡ refusal_number self }
-    {
-        match self {
-            Refusal::ListShort => 28,
-            Refusal::Ends => 31,
-            Refusal::Map => 32,
-            Refusal::Value => 33,
-            Refusal::LeftOver => 34,
-            Refusal::OutputShort => 35,
-        }
-    }
-
     // The refusal as a person reads it.
     pub fn words(self) -> &'static str
         ensures { result.now ≡ refusal_words self }
@@ -55,11 +42,19 @@ impl Refusal {
     }
 }
 
+impl From<Refusal> for u8 {
+    ghost from_gives = { λ refusal n. n ≡ refusal_number refusal };
+
+    fn from(refusal: Refusal) -> u8 {
+        refusal as u8
+    }
+}
+
 impl fmt::Display for Refusal {
     ghost output = { λ x. Some (refusal_text x) };
 
     fn fmt<W: fmt::Write>(&self, f: &mut fmt::Formatter<W>) -> fmt::Result {
-        let number = self.number();
+        let number = u8::from(*self);
         let words = self.words();
         write!(f, "{number}: {words}")
     }
