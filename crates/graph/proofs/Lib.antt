@@ -1,2 +1,3 @@
 pub mod Faulty
 pub mod Tame
+pub mod Tests

@@ -13,6 +13,10 @@ cause_number Target = 5
 cause_number LeftOver = 6
 cause_number Mask = 7
 
+-- a fault where it arises has passed no layer
+abbrev pub fault_at : Cause → ℕ → Fault
+fault_at cause place = record { cause = cause; place = place; height = 0 }
+
 -- a fault that has passed one more layer: the height stops at 255
 abbrev pub raised : Fault → Fault
 raised f = record { cause = f.cause; place = f.place; height = min 255 (f.height + 1) }

@@ -3,3 +3,4 @@ pub mod Faults
 pub mod Graph
 pub mod Lassos
 pub mod Paths
+pub mod Tests

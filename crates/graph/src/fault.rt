@@ -1,37 +1,22 @@
 // What is wrong with a source.
 ghost use Rattle.std.specs.Prelude.{◌≡◌, Some};
-ghost use Rattle.graph.specs.Faults.{cause_number, cause_words, fault_text, raised};
+ghost use Rattle.graph.specs.Faults.{cause_number, cause_words, fault_at, fault_text, raised};
 
 use std::fmt;
 
 // The rule that a source breaks.
 #[derive(Clone, Copy, PartialEq, Eq, Debug)]
 pub enum Cause {
-    Short,
-    MapBit,
-    Range,
-    RowEnd,
-    Target,
-    LeftOver,
-    Mask,
+    Short = 1,
+    MapBit = 2,
+    Range = 3,
+    RowEnd = 4,
+    Target = 5,
+    LeftOver = 6,
+    Mask = 7,
 }
 
 impl Cause {
-    // The number by which the cause is filed.
-    pub fn number(self) -> u8
-        ensures { result ≡ cause_number self }
-    {
-        match self {
-            Cause::Short => 1,
-            Cause::MapBit => 2,
-            Cause::Range => 3,
-            Cause::RowEnd => 4,
-            Cause::Target => 5,
-            Cause::LeftOver => 6,
-            Cause::Mask => 7,
-        }
-    }
-
     // The cause as a person reads it.
     pub fn words(self) -> &'static str
         ensures { result.now ≡ cause_words self }
@@ -48,13 +33,20 @@ impl Cause {
     }
 }
 
-// The cause as a person reads it.
+// The number by which the cause is filed.
+impl From<Cause> for u8 {
+    ghost from_gives = { λ cause n. n ≡ cause_number cause };
+
+    fn from(cause: Cause) -> u8 {
+        cause as u8
+    }
+}
+
 impl fmt::Display for Cause {
     ghost output = { λ c. Some (cause_words c) };
 
     fn fmt<W: fmt::Write>(&self, f: &mut fmt::Formatter<W>) -> fmt::Result {
-        let words = self.words();
-        write!(f, "{words}")
+        f.write_str(self.words())
     }
 }
 
@@ -68,14 +60,24 @@ pub struct Fault {
 }
 
 impl Fault {
+    // The fault where it arises has passed no layer.
+    pub fn new(cause: Cause, place: usize) -> Fault
+        ensures { result ≡ fault_at cause place }
+    {
+        Fault {
+            cause,
+            place,
+            height: 0,
+        }
+    }
+
     // The fault as the layer above passes it on: one higher, and never above 255.
     pub fn raise(self) -> Fault
         ensures { result ≡ raised self }
     {
         Fault {
-            cause: self.cause,
-            place: self.place,
             height: self.height.saturating_add(1),
+            ..self
         }
     }
 }
@@ -84,7 +86,7 @@ impl fmt::Display for Fault {
     ghost output = { λ f. Some (fault_text f) };
 
     fn fmt<W: fmt::Write>(&self, f: &mut fmt::Formatter<W>) -> fmt::Result {
-        let number = self.cause.number();
+        let number = u8::from(self.cause);
         let place = self.place;
         let height = self.height;
         write!(f, "{number} at {place} height {height}")

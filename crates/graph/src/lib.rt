@@ -2,6 +2,7 @@
 #![tactic(auto)]
 
 pub mod fault;
+pub mod fields;
 pub mod source;
 
 // The number of a state.

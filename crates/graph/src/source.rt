@@ -10,9 +10,6 @@ use crate::{State, Word};
 pub trait Source {
     ghost meaning: { Self → Graph };
 
-    // What every source owes: its meaning keeps the laws of a graph.
-    ghost sound: { (x : Self) → Sound (meaning x) };
-
     // The fault, as an error to pass on with `?`.
     fn check(&self) -> Result<(), Fault>
         ensures { result ≡ checked (meaning self.now).fault };
@@ -36,4 +33,7 @@ pub trait Source {
     // The target of arrow `j`, counted from 0.
     fn arrow(&self, s: State, j: u16) -> Option<State>
         ensures { result ≡ (meaning self.now).target s j };
+
+    // What every source owes: its meaning keeps the laws of a graph.
+    ghost sound: { (x : Self) → Sound (meaning x) };
 }

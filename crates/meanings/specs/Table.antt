@@ -5,7 +5,8 @@ use Rattle.graph.specs.declared.fault.Fault.{Fault}
 use Rattle.graph.specs.Graph.{Graph, faulty}
 use Rattle.meanings.specs.declared.Columns.{Columns}
 use Rattle.graph.specs.Bytes.{byte, pair}
-use Rattle.meanings.specs.Fields.{unless, reach, first, first_below}
+use Rattle.meanings.specs.Fields.{unless, reach}
+use Rattle.graph.specs.Tests.{first_error, first_below}
 
 -- The layout -----------------------------------------------------------------
 
@@ -71,7 +72,7 @@ whole b = record {
 -- The first fault --------------------------------------------------------------
 
 abbrev pub header_fault : List ℕ → Option Fault
-header_fault b = first (
+header_fault b = first_error (
     reach b 1 ∷ unless (nat_lt (byte b 0) 4) MapBit 0 ∷
     reach b 3 ∷ unless (nat_le 1 (count b) && nat_le (count b) 1024) Range 1 ∷
     reach b 5 ∷ unless (nat_le 1 (arrows b) && nat_le (arrows b) 16384) Range 3 ∷ [])
@@ -81,7 +82,7 @@ abbrev pub past_ok : List ℕ → Bool
 past_ok b = not (has_initials (byte b 0)) || nat_lt (byte b (rows_at (byte b 0) (count b) - 1)) (2 ^ ((count b - 1) % 8 + 1))
 
 abbrev pub columns_fault : List ℕ → Option Fault
-columns_fault b = first (
+columns_fault b = first_error (
     reach b (initials_at (byte b 0) (count b)) ∷
     reach b (rows_at (byte b 0) (count b)) ∷ unless (past_ok b) Range (rows_at (byte b 0) (count b) - 1) ∷ [])
 
@@ -93,20 +94,20 @@ abbrev pub row_fault : List ℕ → ℕ → Option Fault
 row_fault b i = unless (row_ok b i) RowEnd (rows_at (byte b 0) (count b) + 2 * i)
 
 abbrev pub rows_fault : List ℕ → Option Fault
-rows_fault b = first (reach b (targets_at (byte b 0) (count b)) ∷ first_below (count b) (row_fault b) ∷ [])
+rows_fault b = first_error (reach b (targets_at (byte b 0) (count b)) ∷ first_below (count b) (row_fault b) ∷ [])
 
 abbrev pub target_fault : List ℕ → ℕ → Option Fault
 target_fault b k = unless (nat_lt (target b k) (count b)) Target (targets_at (byte b 0) (count b) + 2 * k)
 
 abbrev pub targets_fault : List ℕ → Option Fault
-targets_fault b = first (
+targets_fault b = first_error (
     reach b (table_end (byte b 0) (count b) (arrows b)) ∷
     first_below (arrows b) (target_fault b) ∷
     unless (length b == table_end (byte b 0) (count b) (arrows b)) LeftOver (table_end (byte b 0) (count b) (arrows b)) ∷ [])
 
 -- fields in order, each first there and then tested
 abbrev pub table_fault : List ℕ → Option Fault
-table_fault b = first (header_fault b ∷ columns_fault b ∷ rows_fault b ∷ targets_fault b ∷ [])
+table_fault b = first_error (header_fault b ∷ columns_fault b ∷ rows_fault b ∷ targets_fault b ∷ [])
 
 abbrev pub by_fault : Option Fault → List ℕ → Graph
 by_fault None b = whole b

@@ -4,21 +4,14 @@ ghost use Rattle.std.specs.Result.{result_err};
 ghost use Rattle.meanings.specs.Fields.{unless, reach};
 
 use graph::fault::{Cause, Fault};
+use graph::fields::error_unless;
 
 // A test of a value: its fault, unless it passes.
 pub fn test(ok: bool, cause: Cause, place: usize) -> Result<(), Fault>
     ensures fault { result_err result ≡ unless ok cause place }
     ensures passed { OnOk result (ok ≡ true) }
 {
-    if ok {
-        Ok(())
-    } else {
-        Err(Fault {
-            cause,
-            place,
-            height: 0,
-        })
-    }
+    error_unless(ok, Fault::new(cause, place))
 }
 
 // The bytes up to `end` are there.

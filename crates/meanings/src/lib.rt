@@ -5,7 +5,7 @@
 pub mod fields;
 
 // Which of a table's two columns stand; of a table with a fault, none.
-#[derive(Clone, Copy, PartialEq, Eq, Debug)]
+#[derive(Clone, Copy, PartialEq, Eq, Debug, Default)]
 pub struct Columns {
     pub words: bool,
     pub initials: bool,
@@ -13,7 +13,7 @@ pub struct Columns {
 
 // A rule applies to a state with every bit of `on` and no bit of `off`, and leads to the state that has the bits of
 // `set` set and those of `clear` cleared.
-#[derive(Clone, Copy, PartialEq, Eq, Debug)]
+#[derive(Clone, Copy, PartialEq, Eq, Debug, Default)]
 pub struct Rule {
     pub on: u16,
     pub off: u16,
