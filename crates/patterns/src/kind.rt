@@ -1,44 +1,38 @@
-// The six patterns by their numbers.
-ghost use Rattle.std.specs.Prelude.{◌≡◌};
-ghost use Rattle.patterns.specs.Kinds.{kind_number, kind_of, has_first};
+// The six patterns by their numbers and their names.
+ghost use Rattle.std.specs.Prelude.{◌≡◌, Some};
+ghost use Rattle.std.specs.Result.{result_ok};
+ghost use Rattle.patterns.specs.Kinds.{kind_number, kind_of, kind_name, has_first, NamesKind};
 
+use std::error::Error;
+use std::fmt;
+use std::str::FromStr;
+
+// The discriminant is the number by which the pattern is filed.
 #[derive(Clone, Copy, PartialEq, Eq, Debug)]
 pub enum Kind {
-    Always,
-    Eventual,
-    Until,
-    UntilStable,
-    LeadsTo,
-    ConditionalStable,
+    Always = 1,
+    Eventual = 2,
+    Until = 3,
+    UntilStable = 4,
+    LeadsTo = 5,
+    ConditionalStable = 6,
 }
 
+// A number or a name that no pattern has.
+#[derive(Clone, Copy, PartialEq, Eq, Debug)]
+pub struct UnknownKind;
+
 impl Kind {
-    // The number by which the pattern is filed.
-    pub fn number(self) -> u8
-        ensures { result ≡ kind_number self }
+    pub fn name(self) -> &'static str
+        ensures { result.now ≡ kind_name self }
     {
         match self {
-            Kind::Always => 1,
-            Kind::Eventual => 2,
-            Kind::Until => 3,
-            Kind::UntilStable => 4,
-            Kind::LeadsTo => 5,
-            Kind::ConditionalStable => 6,
-        }
-    }
-
-    // The pattern of that number, if there is one.
-    pub fn numbered(n: u8) -> Option<Kind>
-        ensures { result ≡ kind_of n }
-    {
-        match n {
-            1 => Some(Kind::Always),
-            2 => Some(Kind::Eventual),
-            3 => Some(Kind::Until),
-            4 => Some(Kind::UntilStable),
-            5 => Some(Kind::LeadsTo),
-            6 => Some(Kind::ConditionalStable),
-            _ => None,
+            Kind::Always => "always",
+            Kind::Eventual => "eventual",
+            Kind::Until => "until",
+            Kind::UntilStable => "until-stable",
+            Kind::LeadsTo => "leads-to",
+            Kind::ConditionalStable => "conditional-stable",
         }
     }
 
@@ -49,3 +43,63 @@ impl Kind {
         !matches!(self, Kind::Always | Kind::Eventual)
     }
 }
+
+impl From<Kind> for u8 {
+    ghost from_gives = { λ kind n. n ≡ kind_number kind };
+
+    fn from(kind: Kind) -> u8 {
+        kind as u8
+    }
+}
+
+impl TryFrom<u8> for Kind {
+    type Error = UnknownKind;
+
+    ghost try_from_gives = { λ n r. result_ok r ≡ kind_of n };
+
+    fn try_from(n: u8) -> Result<Kind, UnknownKind> {
+        match n {
+            1 => Ok(Kind::Always),
+            2 => Ok(Kind::Eventual),
+            3 => Ok(Kind::Until),
+            4 => Ok(Kind::UntilStable),
+            5 => Ok(Kind::LeadsTo),
+            6 => Ok(Kind::ConditionalStable),
+            _ => Err(UnknownKind),
+        }
+    }
+}
+
+impl FromStr for Kind {
+    type Err = UnknownKind;
+
+    ghost from_str_gives = { NamesKind };
+
+    fn from_str(name: &str) -> Result<Kind, UnknownKind> {
+        match name {
+            "always" => Ok(Kind::Always),
+            "eventual" => Ok(Kind::Eventual),
+            "until" => Ok(Kind::Until),
+            "until-stable" => Ok(Kind::UntilStable),
+            "leads-to" => Ok(Kind::LeadsTo),
+            "conditional-stable" => Ok(Kind::ConditionalStable),
+            _ => Err(UnknownKind),
+        }
+    }
+}
+
+impl fmt::Display for Kind {
+    ghost output = { λ kind. Some (kind_name kind) };
+
+    fn fmt<W: fmt::Write>(&self, f: &mut fmt::Formatter<W>) -> fmt::Result {
+        f.write_str(self.name())
+    }
+}
+
+impl fmt::Display for UnknownKind {
+    fn fmt<W: fmt::Write>(&self, f: &mut fmt::Formatter<W>) -> fmt::Result {
+        f.write_str("no pattern has that number or name")
+    }
+}
+
+impl Error for UnknownKind {}
