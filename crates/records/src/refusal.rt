@@ -1,9 +1,10 @@
 // Why bytes are not read, or a record is not written.
 ghost use Rattle.std.specs.Prelude.{◌≡◌, true, Some, OnOk};
 ghost use Rattle.std.specs.Result.{result_err};
+ghost use Rattle.graph.specs.Tests.{error_unless};
 ghost use Rattle.records.specs.Numbers.{refusal_number, refusal_words, refusal_text};
-ghost use Rattle.records.specs.Tests.{unless};
 
+use graph::fields::error_unless;
 use std::error::Error;
 use std::fmt;
 
@@ -35,10 +36,10 @@ impl Refusal {
 
     // Refuses unless the test holds.
     pub fn unless(self, ok: bool) -> Result<(), Refusal>
-        ensures refused { result_err result ≡ unless ok self }
+        ensures refused { result_err result ≡ error_unless ok self }
         ensures passed { OnOk result (ok ≡ true) }
     {
-        if ok { Ok(()) } else { Err(self) }
+        error_unless(ok, self)
     }
 }
 
