@@ -2,9 +2,12 @@
 ghost use Rattle.std.specs.Prelude.{◌≡◌, true, Some, OnOk};
 ghost use Rattle.std.specs.Result.{result_err};
 ghost use Rattle.graph.specs.Tests.{error_unless};
+ghost use Rattle.records.specs.declared.refusal.Refusal.TheVariants.{Value};
 ghost use Rattle.records.specs.Numbers.{refusal_number, refusal_words, refusal_text};
 
+use crate::verdict::UnknownVerdict;
 use graph::fields::error_unless;
+use patterns::kind::UnknownKind;
 use std::error::Error;
 use std::fmt;
 
@@ -48,6 +51,24 @@ impl From<Refusal> for u8 {
 
     fn from(refusal: Refusal) -> u8 {
         refusal as u8
+    }
+}
+
+// No pattern has the number: a value outside its range.
+impl From<UnknownKind> for Refusal {
+    ghost from_gives = { λ _ refusal. refusal ≡ Value };
+
+    fn from(_number: UnknownKind) -> Refusal {
+        Refusal::Value
+    }
+}
+
+// No verdict has it.
+impl From<UnknownVerdict> for Refusal {
+    ghost from_gives = { λ _ refusal. refusal ≡ Value };
+
+    fn from(_number: UnknownVerdict) -> Refusal {
+        Refusal::Value
     }
 }
 
