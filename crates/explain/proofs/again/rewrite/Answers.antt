@@ -15,6 +15,7 @@ returns c =
     record {
       refused = c.in_ok-write.ensures.refused ∙ again b t (length c.args.stem.now) (length c.args.cycle.now) (length c.args.out.now) w k.refused;
       answer = k.answer;
+      told = k.told;
       stem = k.stem ∙ ap (λ (r : Option Refusal). laid_if (accepted r) (stem_of b) c.args.stem.now) k.refused;
       cycle = k.cycle ∙ ap (λ (r : Option Refusal). laid_if (accepted r) (cycle_of b) c.args.cycle.now) k.refused;
       output = c.in_ok-write.ensures.output ∙ ap (λ (b : List ℕ). laid b c.args.out.now) w.written;
