@@ -1,9 +1,9 @@
 // A record read and written again.
-ghost use Rattle.std.specs.Prelude.{◌≡◌, ◌≤◌, length, is_ok, IfOk, string_bytes};
+ghost use Rattle.std.specs.Prelude.{◌≡◌, ◌≤◌, length, take, is_ok, IfOk, string_bytes};
 ghost use Rattle.std.specs.Result.{result_err};
 ghost use Rattle.records.specs.Layout.{laid_if, stem_of, cycle_of, of_bytes};
 ghost use Rattle.records.specs.Refusals.{accepted, reader_refusal, rewriter_refusal};
-ghost use Rattle.records.specs.Round.{of_record, of_found, Tells};
+ghost use Rattle.records.specs.Round.{of_found, Tells};
 ghost use Rattle.explain.specs.Failures.{refusal_in};
 ghost use Rattle.explain.specs.Text.{explanation};
 
@@ -18,7 +18,9 @@ use std::alloc::Global;
 fn view<'a>(found: Found, stem: &'a [State], cycle: &'a [State]) -> Record<'a>
     requires stem_fits { found.stem ≤ length stem.now }
     requires cycle_fits { found.cycle ≤ length cycle.now }
-    ensures { of_record result ≡ of_found found stem.now cycle.now }
+    ensures heading { result.heading ≡ found.heading }
+    ensures stem { result.stem.now ≡ take found.stem stem.now }
+    ensures cycle { result.cycle.now ≡ take found.cycle cycle.now }
 {
     Record {
         heading: found.heading,

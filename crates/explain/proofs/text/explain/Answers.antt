@@ -1,8 +1,10 @@
 use Rattle.std.proofs.Common.{◌++◌, ◌∙◌}
 use Rattle.std.proofs.lemmas.Result.{IfOk-weaker}
+use Rattle.explain.specs.Text.{explanation}
 use Rattle.explain.proofs.text.explain.Goals as goal
 
 pub returns : goal.returns
+unfolding explanation
 returns c =
     IfOk-weaker c.format.result _ _
     (λ s e. e ∙ (λ i. c.preface-preface.ensures i ++ (c.in_ok-kind.ensures i ++ (c.in_ok-p.ensures i ++ (c.in_ok-q.ensures i

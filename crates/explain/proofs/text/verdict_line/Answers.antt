@@ -6,5 +6,5 @@ use Rattle.explain.proofs.text.verdict_line.Goals as goal
 pub returns : goal.returns
 returns c =
     IfOk-weaker c.numbered_line.result _ _
-    (λ s e. e ∙ (λ i. numbered_line (codes "Verdict") (c.number.ensures i) (c.verdict_words.ensures i)))
+    (λ s e. e ∙ (λ i. numbered_line (codes "Verdict") (c.into.ensures i) (c.verdict_words.ensures i)))
     c.numbered_line.ensures
