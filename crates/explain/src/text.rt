@@ -1,7 +1,7 @@
 // A record as a text for people.
 ghost use Rattle.std.specs.Prelude.{◌≡◌, ◌<◌, ◌++◌, IfOk, OnOk, string_bytes};
 ghost use Rattle.records.specs.Round.{of_record};
-ghost use Rattle.explain.specs.Text.{has_bit, bit_line, bit_lines, note, proposition_lines, p_lines, spaced, states_line, lasso_lines, numbered_line, kind_line, verdict_line, depth_line, preface, explanation};
+ghost use Rattle.explain.specs.Text.{has_bit, bit_line, bit_lines, note, proposition_lines, p_lines, spaced, states_line, lasso_lines, numbered_line, kind_line, verdict_line, depth_line, explanation};
 
 use crate::words::{kind_words, verdict_words};
 use graph::{State, WORD_BITS, Word};
@@ -10,6 +10,9 @@ use patterns::proposition::Proposition;
 use records::verdict::Verdict;
 use records::{Heading, Record};
 use std::alloc::{AllocError, Global};
+
+const PREFACE: &str =
+    "This record tells how a control graph was inspected for one pattern.\nA path starts in an initial state and follows arrows for ever. The pattern is asked of the places of every path.\nThe state at each place shows a word of 16 bits, bit 0 the lowest.\n";
 
 fn has_bit(word: Word, bit: u8) -> bool
     requires { bit < 16 }
@@ -126,23 +129,16 @@ fn depth_line(alloc: Global, depth: u16) -> Result<String, AllocError>
     )
 }
 
-fn preface() -> &'static str
-    ensures { result.now ≡ preface }
-{
-    "This record tells how a control graph was inspected for one pattern.\nA path starts in an initial state and follows arrows for ever. The pattern is asked of the places of every path.\nThe state at each place shows a word of 16 bits, bit 0 the lowest.\n"
-}
-
 // All that a record says, for a person who knows none of its codes.
 pub fn explain(alloc: Global, filing: Record<'_>) -> Result<String, AllocError>
     ensures { IfOk result (λ s. string_bytes s ≡ explanation (of_record filing.entry)) }
 {
     let h = filing.heading;
-    let preface = preface();
     let kind = kind_line(alloc, h.kind)?;
     let p = p_lines(alloc, h)?;
     let q = proposition_lines(alloc, "Q", h.q)?;
     let verdict = verdict_line(alloc, h.verdict)?;
     let depth = depth_line(alloc, h.depth)?;
     let lasso = lasso_lines(alloc, filing)?;
-    format!(in alloc; "{preface}{kind}{p}{q}{verdict}{depth}{lasso}")
+    format!(in alloc; "{PREFACE}{kind}{p}{q}{verdict}{depth}{lasso}")
 }
