@@ -60,7 +60,8 @@ depth_line depth = codes "Depth " ++ (decimal depth ++ codes ": so many arrows t
 abbrev pub preface : List ℕ
 preface = codes "This record tells how a control graph was inspected for one pattern.\nA path starts in an initial state and follows arrows for ever. The pattern is asked of the places of every path.\nThe state at each place shows a word of 16 bits, bit 0 the lowest.\n"
 
-abbrev pub explanation : Content → List ℕ
+-- unfolded only where its lines are written
+unfoldable pub explanation : Content → List ℕ
 explanation c =
     preface ++ (kind_line c.heading.kind ++ (p_lines c.heading ++ (proposition_lines (codes "Q") c.heading.q
     ++ (verdict_line c.heading.verdict ++ (depth_line c.heading.depth ++ lasso_lines c)))))

@@ -2,6 +2,7 @@
 #![tactic(auto)]
 
 mod again;
+mod failure;
 mod text;
 mod words;
 
@@ -12,13 +13,13 @@ use std::process::ExitCode;
 const MOST: u64 = 65536;
 
 fn run(rt: &HostRuntime) -> anyhow::Result<()> {
-    let heap = rt.alloc();
-    let mut bytes = Vec::new(heap);
+    let alloc = rt.alloc();
+    let mut bytes = Vec::new(alloc);
     rt.stdin().take(MOST).read_to_end(&mut bytes)?;
-    let mut stem = vec![in heap; 0u16; 5120]?;
-    let mut cycle = vec![in heap; 0u16; 4096]?;
-    let mut out = vec![in heap; 0u8; bytes.len()]?;
-    let text = again::retell(heap, &bytes, &mut stem, &mut cycle, &mut out)??;
+    let mut stem = vec![in alloc; 0u16; 5120]?;
+    let mut cycle = vec![in alloc; 0u16; 4096]?;
+    let mut out = vec![in alloc; 0u8; bytes.len()]?;
+    let text = again::retell(alloc, &bytes, &mut stem, &mut cycle, &mut out)?;
     let count = bytes.len();
     let same = words::sameness(out == bytes);
     println!(rt; "{text}Written again, the record is {same} {count} bytes.")?;

@@ -1,33 +1,35 @@
 -- What is known of bytes once some of their tests have been passed.
-use Rattle.std.specs.Prelude.{◌≡◌, ℕ, ◌≤◌, List, length}
-use Rattle.patterns.specs.declared.kind.Kind.{Kind}
+use Rattle.std.specs.Prelude.{◌≡◌, ℕ, ◌≤◌, List, length, map}
 use Rattle.records.specs.declared.Heading.{Heading}
-use Rattle.records.specs.declared.verdict.Verdict.{Verdict}
-use Rattle.graph.specs.Bytes.{byte}
-use Rattle.records.specs.Layout.{kind_in, verdict_in, heading_of, lengths_at, stem_at, stem_count, cycle_count, end_of}
+use Rattle.graph.specs.Bytes.{pair}
+use Rattle.records.specs.Layout.{has_p, has_depth, has_lasso, heading_of, stem_count, cycle_count, stem_of, cycle_of}
+use Rattle.reader.specs.declared.Standing.{Standing}
 
--- the tests of map, pattern and verdict
-pub record Fronted (b : List ℕ) (map : ℕ) (kind : Kind) (verdict : Verdict) : Type 0 where
-  pub map_is : map ≡ byte b 0
-  pub kind_is : kind ≡ kind_in b
-  pub verdict_is : verdict ≡ verdict_in b
-  pub three : 3 ≤ length b
+-- the bits of the map byte
+pub record ToldBy (map : ℕ) (stands : Standing) : Type 0 where
+  pub p_is : stands.p ≡ has_p map
+  pub depth_is : stands.depth ≡ has_depth map
+  pub lasso_is : stands.lasso ≡ has_lasso map
 
--- and of Q, P and the depth
-pub record Headed (b : List ℕ) (heading : Heading) : Type 0 where
-  pub heading_is : heading ≡ heading_of b
-  pub reaches : lengths_at (byte b 0) ≤ length b
+-- the numbers in pieces of two bytes each
+abbrev pub numbers : List (List ℕ) → List ℕ
+numbers pieces = map (λ piece. pair piece 0) pieces
 
--- and of both lengths
+-- both lengths, once tested
 pub record Counted (b : List ℕ) (stem cycle : ℕ) : Type 0 where
   pub stem_is : stem ≡ stem_count b
   pub cycle_is : cycle ≡ cycle_count b
   pub stem_short : stem ≤ 5120
   pub cycle_short : cycle ≤ 4096
 
--- and of all
-pub record Framed (b : List ℕ) (heading : Heading) (at stem cycle : ℕ) : Type 0 where
+-- stem and loop, once tested
+pub record Columns (b : List ℕ) (stem cycle : List (List ℕ)) : Type 0 where
+  pub stem_is : numbers stem ≡ stem_of b
+  pub cycle_is : numbers cycle ≡ cycle_of b
+  pub stem_short : length stem ≤ 5120
+  pub cycle_short : length cycle ≤ 4096
+
+-- and the heading
+pub record Framed (b : List ℕ) (heading : Heading) (stem cycle : List (List ℕ)) : Type 0 where
   pub heading_is : heading ≡ heading_of b
-  pub from : at ≡ stem_at (byte b 0)
-  pub counted : Counted b stem cycle
-  pub within : end_of b ≤ length b
+  pub columns : Columns b stem cycle

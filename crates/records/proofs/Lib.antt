@@ -1,6 +1,5 @@
 pub mod Numbers
 pub mod Packs
-pub mod States
 pub mod Writes
 pub mod Accepts
 pub mod Backs

@@ -1,5 +1,6 @@
 -- A record and its bytes: three bytes, then fields of two bytes each, the high byte first.
-use Rattle.std.specs.Prelude.{ℕ, zero, suc, ◌+◌, ◌*◌, ◌/◌, ◌%◌, Bool, true, cond, ◌&&◌, ◌||◌, List, [], ◌∷◌, ◌++◌, length, drop, ◌==◌, nat_le, nat_lt}
+use Rattle.std.specs.Prelude.{ℕ, zero, suc, ◌+◌, ◌*◌, ◌/◌, ◌%◌, Bool, cond, ◌&&◌, ◌||◌, List, [], ◌∷◌, ◌++◌, length, drop, ◌==◌, nat_le, nat_lt}
+use Rattle.std.specs.List.{list_all}
 use Rattle.std.specs.Option.{unwrap_or}
 use Rattle.graph.specs.Bytes.{byte, pair}
 use Rattle.patterns.specs.Kinds.{kind_number, kind_of, has_first}
@@ -52,8 +53,7 @@ encoding c = front c.heading ++ wide (fields c)
 
 -- states are numbered up to 1,023
 abbrev pub states_ok : List ℕ → Bool
-states_ok [] = true
-states_ok (s ∷ ss) = nat_lt s 1024 && states_ok ss
+states_ok ss = list_all (λ s. nat_lt s 1024) ss
 
 abbrev pub lasso_ok : List ℕ → List ℕ → Bool
 lasso_ok stem cycle =

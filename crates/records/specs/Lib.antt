@@ -1,5 +1,4 @@
 pub mod Numbers
-pub mod Tests
 pub mod Layout
 pub mod Places
 pub mod Refusals

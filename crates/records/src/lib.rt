@@ -28,7 +28,8 @@ pub struct Record<'a> {
     pub cycle: &'a [State],
 }
 
-// A record that was read: how many states stem and loop have. The states are at the fronts of two lists.
+// A record that was read: how many states stem and loop have. The states are at the fronts of two lists. Lengths
+// and no slices, since the project shows a lasso by two lists that the caller lends and both lengths.
 #[derive(Clone, Copy, PartialEq, Eq, Debug)]
 pub struct Found {
     pub heading: Heading,

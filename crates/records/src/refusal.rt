@@ -1,37 +1,28 @@
 // Why bytes are not read, or a record is not written.
 ghost use Rattle.std.specs.Prelude.{◌≡◌, true, Some, OnOk};
 ghost use Rattle.std.specs.Result.{result_err};
+ghost use Rattle.graph.specs.Tests.{error_unless};
+ghost use Rattle.records.specs.declared.refusal.Refusal.TheVariants.{Value};
 ghost use Rattle.records.specs.Numbers.{refusal_number, refusal_words, refusal_text};
-ghost use Rattle.records.specs.Tests.{unless};
 
+use crate::verdict::UnknownVerdict;
+use graph::fields::error_unless;
+use patterns::kind::UnknownKind;
 use std::error::Error;
 use std::fmt;
 
+// The discriminant is the number by which the refusal is filed.
 #[derive(Clone, Copy, PartialEq, Eq, Debug)]
 pub enum Refusal {
-    ListShort,
-    Ends,
-    Map,
-    Value,
-    LeftOver,
-    OutputShort,
+    ListShort = 28,
+    Ends = 31,
+    Map = 32,
+    Value = 33,
+    LeftOver = 34,
+    OutputShort = 35,
 }
 
 impl Refusal {
-    // The number by which the refusal is filed.
-    pub fn number(self) -> u8
-        ensures { result ≡ refusal_number self }
-    {
-        match self {
-            Refusal::ListShort => 28,
-            Refusal::Ends => 31,
-            Refusal::Map => 32,
-            Refusal::Value => 33,
-            Refusal::LeftOver => 34,
-            Refusal::OutputShort => 35,
-        }
-    }
-
     // The refusal as a person reads it.
     pub fn words(self) -> &'static str
         ensures { result.now ≡ refusal_words self }
@@ -48,10 +39,36 @@ impl Refusal {
 
     // Refuses unless the test holds.
     pub fn unless(self, ok: bool) -> Result<(), Refusal>
-        ensures refused { result_err result ≡ unless ok self }
+        ensures refused { result_err result ≡ error_unless ok self }
         ensures passed { OnOk result (ok ≡ true) }
     {
-        if ok { Ok(()) } else { Err(self) }
+        error_unless(ok, self)
+    }
+}
+
+impl From<Refusal> for u8 {
+    ghost from_gives = { λ refusal n. n ≡ refusal_number refusal };
+
+    fn from(refusal: Refusal) -> u8 {
+        refusal as u8
+    }
+}
+
+// No pattern has the number: a value outside its range.
+impl From<UnknownKind> for Refusal {
+    ghost from_gives = { λ _ refusal. refusal ≡ Value };
+
+    fn from(_number: UnknownKind) -> Refusal {
+        Refusal::Value
+    }
+}
+
+// No verdict has it.
+impl From<UnknownVerdict> for Refusal {
+    ghost from_gives = { λ _ refusal. refusal ≡ Value };
+
+    fn from(_number: UnknownVerdict) -> Refusal {
+        Refusal::Value
     }
 }
 
@@ -59,7 +76,7 @@ impl fmt::Display for Refusal {
     ghost output = { λ x. Some (refusal_text x) };
 
     fn fmt<W: fmt::Write>(&self, f: &mut fmt::Formatter<W>) -> fmt::Result {
-        let number = self.number();
+        let number = u8::from(*self);
         let words = self.words();
         write!(f, "{number}: {words}")
     }

@@ -1,41 +1,58 @@
 // What an inspection found out.
 ghost use Rattle.std.specs.Prelude.{◌≡◌};
+ghost use Rattle.std.specs.Result.{result_ok};
 ghost use Rattle.records.specs.Numbers.{verdict_number, verdict_of, is_broken};
 
+use std::error::Error;
+use std::fmt;
+
+// The discriminant is the number by which the verdict is filed.
 #[derive(Clone, Copy, PartialEq, Eq, Debug)]
 pub enum Verdict {
-    Open,
-    Kept,
-    Broken,
+    Open = 0,
+    Kept = 1,
+    Broken = 2,
 }
 
+// A number that no verdict has.
+#[derive(Clone, Copy, PartialEq, Eq, Debug)]
+pub struct UnknownVerdict;
+
 impl Verdict {
-    // The number by which the verdict is filed.
-    pub fn number(self) -> u8
-        ensures { result ≡ verdict_number self }
-    {
-        match self {
-            Verdict::Open => 0,
-            Verdict::Kept => 1,
-            Verdict::Broken => 2,
-        }
-    }
-
-    // The verdict of that number, if there is one.
-    pub fn numbered(n: u8) -> Option<Verdict>
-        ensures { result ≡ verdict_of n }
-    {
-        match n {
-            0 => Some(Verdict::Open),
-            1 => Some(Verdict::Kept),
-            2 => Some(Verdict::Broken),
-            _ => None,
-        }
-    }
-
     pub fn is_broken(self) -> bool
         ensures { result ≡ is_broken self }
     {
         matches!(self, Verdict::Broken)
     }
 }
+
+impl From<Verdict> for u8 {
+    ghost from_gives = { λ verdict n. n ≡ verdict_number verdict };
+
+    fn from(verdict: Verdict) -> u8 {
+        verdict as u8
+    }
+}
+
+impl TryFrom<u8> for Verdict {
+    type Error = UnknownVerdict;
+
+    ghost try_from_gives = { λ n r. result_ok r ≡ verdict_of n };
+
+    fn try_from(n: u8) -> Result<Verdict, UnknownVerdict> {
+        match n {
+            0 => Ok(Verdict::Open),
+            1 => Ok(Verdict::Kept),
+            2 => Ok(Verdict::Broken),
+            _ => Err(UnknownVerdict),
+        }
+    }
+}
+
+impl fmt::Display for UnknownVerdict {
+    fn fmt<W: fmt::Write>(&self, f: &mut fmt::Formatter<W>) -> fmt::Result {
+        f.write_str("no verdict has this number")
+    }
+}
+
+impl Error for UnknownVerdict {}

@@ -8,35 +8,35 @@ use std::process::Abort;
 use std::test::Fail;
 
 // The number of the refusal, or 0. The lists are long enough, and after a refusal they are as before.
-fn refusal_of(rt: &impl Abort, heap: Global, bytes: &[u8]) -> Result<u8, Fail> {
-    let mut stem = vec![in heap; 9u16; 5120]?;
-    let mut cycle = vec![in heap; 9u16; 4096]?;
+fn refusal_of(rt: &impl Abort, alloc: Global, bytes: &[u8]) -> Result<u8, Fail> {
+    let mut stem = vec![in alloc; 9u16; 5120]?;
+    let mut cycle = vec![in alloc; 9u16; 4096]?;
     match reader::read(bytes, &mut stem, &mut cycle) {
         Ok(_) => Ok(0),
         Err(refusal) => {
-            assert!(rt; stem == vec![in heap; 9u16; 5120]?);
-            assert!(rt; cycle == vec![in heap; 9u16; 4096]?);
-            Ok(refusal.number())
+            assert!(rt; stem == vec![in alloc; 9u16; 5120]?);
+            assert!(rt; cycle == vec![in alloc; 9u16; 4096]?);
+            Ok(u8::from(refusal))
         }
     }
 }
 
 // The same, with lists of these lengths.
-fn refusal_with(heap: Global, stem: usize, cycle: usize, bytes: &[u8]) -> Result<u8, Fail> {
-    let mut stem = vec![in heap; 9u16; stem]?;
-    let mut cycle = vec![in heap; 9u16; cycle]?;
+fn refusal_with(alloc: Global, stem: usize, cycle: usize, bytes: &[u8]) -> Result<u8, Fail> {
+    let mut stem = vec![in alloc; 9u16; stem]?;
+    let mut cycle = vec![in alloc; 9u16; cycle]?;
     match reader::read(bytes, &mut stem, &mut cycle) {
         Ok(_) => Ok(0),
-        Err(refusal) => Ok(refusal.number()),
+        Err(refusal) => Ok(u8::from(refusal)),
     }
 }
 
 #[test]
 fn lists_too_short(rt: HostRuntime) -> Result<(), Fail> {
-    let heap = rt.alloc();
-    assert_eq!(rt; refusal_with(heap, 5119, 4096, &[])?, 28);
-    assert_eq!(rt; refusal_with(heap, 5120, 4095, &[])?, 28);
-    assert_eq!(rt; refusal_with(heap, 5120, 4096, &[])?, 31);
+    let alloc = rt.alloc();
+    assert_eq!(rt; refusal_with(alloc, 5119, 4096, &[])?, 28);
+    assert_eq!(rt; refusal_with(alloc, 5120, 4095, &[])?, 28);
+    assert_eq!(rt; refusal_with(alloc, 5120, 4096, &[])?, 31);
     Ok(())
 }
 
@@ -99,9 +99,9 @@ fn lassos(rt: HostRuntime) -> Result<(), Fail> {
 
 #[test]
 fn shortest(rt: HostRuntime) -> Result<(), Fail> {
-    let heap = rt.alloc();
-    let mut stem = vec![in heap; 9u16; 5120]?;
-    let mut cycle = vec![in heap; 9u16; 4096]?;
+    let alloc = rt.alloc();
+    let mut stem = vec![in alloc; 9u16; 5120]?;
+    let mut cycle = vec![in alloc; 9u16; 4096]?;
     let none = Proposition { on: 0, off: 0 };
     let heading = Heading {
         kind: Kind::Always,
@@ -119,17 +119,17 @@ fn shortest(rt: HostRuntime) -> Result<(), Fail> {
         reader::read(&[0, 1, 0, 0, 0, 0, 0], &mut stem, &mut cycle)?,
         found
     );
-    assert!(rt; stem == vec![in heap; 9u16; 5120]?);
-    assert!(rt; cycle == vec![in heap; 9u16; 4096]?);
+    assert!(rt; stem == vec![in alloc; 9u16; 5120]?);
+    assert!(rt; cycle == vec![in alloc; 9u16; 4096]?);
     Ok(())
 }
 
 // Every field stands. The lists hold stem and loop at their fronts, and behind them what they held.
 #[test]
 fn every_field(rt: HostRuntime) -> Result<(), Fail> {
-    let heap = rt.alloc();
-    let mut stem = vec![in heap; 9u16; 5120]?;
-    let mut cycle = vec![in heap; 9u16; 4096]?;
+    let alloc = rt.alloc();
+    let mut stem = vec![in alloc; 9u16; 5120]?;
+    let mut cycle = vec![in alloc; 9u16; 4096]?;
     let bytes = [
         7, 6, 2, 1, 2, 3, 4, 5, 6, 7, 8, 1, 0, 0, 2, 0, 1, 0, 7, 3, 255, 2, 1,
     ];

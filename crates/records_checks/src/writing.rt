@@ -18,25 +18,25 @@ fn heading(kind: Kind, verdict: Verdict, on: u16) -> Heading {
 }
 
 // The number of the refusal, or 0. After a refusal the output is as before.
-fn refusal_of(rt: &impl Abort, heap: Global, filing: Record<'_>, room: usize) -> Result<u8, Fail> {
-    let mut out = vec![in heap; 9u8; room]?;
+fn refusal_of(rt: &impl Abort, alloc: Global, filing: Record<'_>, room: usize) -> Result<u8, Fail> {
+    let mut out = vec![in alloc; 9u8; room]?;
     match writer::write(filing, &mut out) {
         Ok(_) => Ok(0),
         Err(refusal) => {
-            assert!(rt; out == vec![in heap; 9u8; room]?);
-            Ok(refusal.number())
+            assert!(rt; out == vec![in alloc; 9u8; room]?);
+            Ok(u8::from(refusal))
         }
     }
 }
 
 #[test]
 fn fields_that_do_not_stand(rt: HostRuntime) -> Result<(), Fail> {
-    let heap = rt.alloc();
+    let alloc = rt.alloc();
     let always = heading(Kind::Always, Verdict::Kept, 1);
     assert_eq!(rt;
         refusal_of(
             &rt,
-            heap,
+            alloc,
             Record {
                 heading: always,
                 stem: &[],
@@ -50,7 +50,7 @@ fn fields_that_do_not_stand(rt: HostRuntime) -> Result<(), Fail> {
     assert_eq!(rt;
         refusal_of(
             &rt,
-            heap,
+            alloc,
             Record {
                 heading: until,
                 stem: &[0],
@@ -63,7 +63,7 @@ fn fields_that_do_not_stand(rt: HostRuntime) -> Result<(), Fail> {
     assert_eq!(rt;
         refusal_of(
             &rt,
-            heap,
+            alloc,
             Record {
                 heading: until,
                 stem: &[],
@@ -76,7 +76,7 @@ fn fields_that_do_not_stand(rt: HostRuntime) -> Result<(), Fail> {
     assert_eq!(rt;
         refusal_of(
             &rt,
-            heap,
+            alloc,
             Record {
                 heading: until,
                 stem: &[],
@@ -89,7 +89,7 @@ fn fields_that_do_not_stand(rt: HostRuntime) -> Result<(), Fail> {
     assert_eq!(rt;
         refusal_of(
             &rt,
-            heap,
+            alloc,
             Record {
                 heading: until,
                 stem: &[],
@@ -104,14 +104,14 @@ fn fields_that_do_not_stand(rt: HostRuntime) -> Result<(), Fail> {
 
 #[test]
 fn lassos(rt: HostRuntime) -> Result<(), Fail> {
-    let heap = rt.alloc();
+    let alloc = rt.alloc();
     let h = heading(Kind::LeadsTo, Verdict::Broken, 1);
-    let stem = vec![in heap; 1023u16; 5121]?;
-    let cycle = vec![in heap; 1023u16; 4097]?;
+    let stem = vec![in alloc; 1023u16; 5121]?;
+    let cycle = vec![in alloc; 1023u16; 4097]?;
     assert_eq!(rt;
         refusal_of(
             &rt,
-            heap,
+            alloc,
             Record {
                 heading: h,
                 stem: &stem,
@@ -124,7 +124,7 @@ fn lassos(rt: HostRuntime) -> Result<(), Fail> {
     assert_eq!(rt;
         refusal_of(
             &rt,
-            heap,
+            alloc,
             Record {
                 heading: h,
                 stem: &[],
@@ -137,7 +137,7 @@ fn lassos(rt: HostRuntime) -> Result<(), Fail> {
     assert_eq!(rt;
         refusal_of(
             &rt,
-            heap,
+            alloc,
             Record {
                 heading: h,
                 stem: &[],
@@ -150,7 +150,7 @@ fn lassos(rt: HostRuntime) -> Result<(), Fail> {
     assert_eq!(rt;
         refusal_of(
             &rt,
-            heap,
+            alloc,
             Record {
                 heading: h,
                 stem: &[1024],
@@ -163,7 +163,7 @@ fn lassos(rt: HostRuntime) -> Result<(), Fail> {
     assert_eq!(rt;
         refusal_of(
             &rt,
-            heap,
+            alloc,
             Record {
                 heading: h,
                 stem: &[0],
@@ -176,7 +176,7 @@ fn lassos(rt: HostRuntime) -> Result<(), Fail> {
     assert_eq!(rt;
         refusal_of(
             &rt,
-            heap,
+            alloc,
             Record {
                 heading: h,
                 stem: &[0],
@@ -189,7 +189,7 @@ fn lassos(rt: HostRuntime) -> Result<(), Fail> {
     assert_eq!(rt;
         refusal_of(
             &rt,
-            heap,
+            alloc,
             Record {
                 heading: h,
                 stem: &[0],
@@ -233,14 +233,14 @@ fn shortest(rt: HostRuntime) -> Result<(), Fail> {
 
 #[test]
 fn longest(rt: HostRuntime) -> Result<(), Fail> {
-    let heap = rt.alloc();
+    let alloc = rt.alloc();
     let h = heading(Kind::LeadsTo, Verdict::Broken, 1);
-    let stem = vec![in heap; 1023u16; 5120]?;
-    let cycle = vec![in heap; 1022u16; 4096]?;
+    let stem = vec![in alloc; 1023u16; 5120]?;
+    let cycle = vec![in alloc; 1022u16; 4096]?;
     assert_eq!(rt;
         refusal_of(
             &rt,
-            heap,
+            alloc,
             Record {
                 heading: h,
                 stem: &stem,
@@ -250,7 +250,7 @@ fn longest(rt: HostRuntime) -> Result<(), Fail> {
         )?,
         35
     );
-    let mut out = vec![in heap; 0u8; 18449]?;
+    let mut out = vec![in alloc; 0u8; 18449]?;
     assert_eq!(rt;
         writer::write(
             Record {
@@ -267,8 +267,8 @@ fn longest(rt: HostRuntime) -> Result<(), Fail> {
             7, 5, 2, 0, 2, 0, 0, 0, 1, 0, 0, 255, 255, 20, 0, 16, 0, 3, 255,
         ],)
     );
-    let mut stem_read = vec![in heap; 0u16; 5120]?;
-    let mut cycle_read = vec![in heap; 0u16; 4096]?;
+    let mut stem_read = vec![in alloc; 0u16; 5120]?;
+    let mut cycle_read = vec![in alloc; 0u16; 4096]?;
     let found = Found {
         heading: h,
         stem: 5120,

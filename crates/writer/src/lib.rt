@@ -1,38 +1,24 @@
 // The writer: a record's bytes at the front of a list.
 #![tactic(auto)]
 
-ghost use Rattle.std.specs.Prelude.{◌≡◌, ◌+◌, ◌*◌, ◌≤◌, true, [], ◌++◌, length, take, is_ok, IfOk, if◌then◌else◌, nat_le};
+ghost use Rattle.std.specs.Prelude.{◌≡◌, ◌+◌, ◌*◌, ◌≤◌, true, ◌++◌, length, take, is_ok, IfOk};
 ghost use Rattle.std.specs.Result.{result_err};
-ghost use Rattle.records.specs.Layout.{wide, laid, laid_if, front, q_fields, p_fields, length_fields, map_of, states_ok, lasso_ok, valid, encoding};
-ghost use Rattle.records.specs.Places.{put};
+ghost use Rattle.graph.specs.Tests.{error_unless};
+ghost use Rattle.records.specs.declared.refusal.Refusal.TheVariants.{Value};
+ghost use Rattle.records.specs.Layout.{wide, laid, laid_if, front, p_fields, depth_fields, length_fields, map_of, states_ok, lasso_ok, valid, encoding};
 ghost use Rattle.records.specs.Refusals.{writer_refusal};
 ghost use Rattle.records.specs.Round.{of_record, Reads};
+ghost use Rattle.writer.specs.Cursors.{Puts};
 
 use graph::State;
 use records::refusal::Refusal;
 use records::{Heading, Record};
 
-// Writes each number in two bytes, from `at` on: every other byte is as before.
-fn pack(words: &[u16], out: &mut [u8], at: usize)
-    requires { at + 2 * length words.now ≤ length out.old }
-    ensures { out.new ≡ put at (wide words.now) out.old }
-{
-    for i in 0..words.len() {
-        out[at + 2 * i] = (words[i] / 256) as u8;
-        out[at + 2 * i + 1] = (words[i] % 256) as u8;
-    }
-}
-
 // Every state is one of the 1,024.
 fn states_stand(states: &[State]) -> bool
     ensures { result ≡ states_ok states.now }
 {
-    for i in 0..states.len() {
-        if states[i] >= 1024 {
-            return false;
-        }
-    }
-    true
+    states.iter().all(|state| *state < 1024)
 }
 
 fn lasso_stands(stem: &[State], cycle: &[State]) -> bool
@@ -63,97 +49,128 @@ fn is_valid(filing: Record<'_>) -> bool
 fn map_of(h: Heading) -> u8
     ensures { result ≡ map_of h }
 {
-    let first = if h.kind.has_first() { 1 } else { 0 };
-    let depth = if h.depth > 0 { 2 } else { 0 };
-    let lasso = if h.verdict.is_broken() { 4 } else { 0 };
-    first + depth + lasso
+    u8::from(h.kind.has_first()) + 2 * u8::from(h.depth > 0) + 4 * u8::from(h.verdict.is_broken())
 }
 
-// Each of these writes a section from `at` on, and answers where the next begins.
-fn put_front(h: Heading, out: &mut [u8]) -> usize
-    requires { 7 ≤ length out.old }
-    ensures written { out.new ≡ laid (front h ++ wide (q_fields h)) out.old }
-    ensures end { result ≡ 7 }
-{
-    out[0] = map_of(h);
-    out[1] = h.kind.number();
-    out[2] = h.verdict.number();
-    pack(&[h.q.on, h.q.off], out, 3);
-    7
+// The output, written up to `at`.
+#[derive(Drop)]
+struct Cursor<'a> {
+    out: &'a mut [u8],
+    at: usize,
 }
 
-fn put_fields(stand: bool, words: &[u16], out: &mut [u8], at: usize) -> usize
-    requires { at + 2 * length (if stand then words.now else []) ≤ length out.old }
-    ensures written { out.new ≡ put at (wide (if stand then words.now else [])) out.old }
-    ensures end { result ≡ at + 2 * length (if stand then words.now else []) }
-{
-    if !stand {
-        return at;
+impl Cursor<'_> {
+    // Writes bytes where the cursor stands, and goes on behind them.
+    fn put(&mut self, bytes: &[u8])
+        requires room { self.old.at + length bytes.now ≤ length self.old.out.now }
+        ensures { Puts self.old self.new bytes.now }
+    {
+        let end = self.at + bytes.len();
+        self.out[self.at..end].copy_from_slice(bytes);
+        self.at = end;
     }
-    pack(words, out, at);
-    at + 2 * words.len()
+
+    // Numbers take two bytes each. No `chunks_exact_mut`: nothing is known of a slice once its chunks were lent.
+    fn put_words(&mut self, words: &[u16])
+        requires room { self.old.at + 2 * length words.now ≤ length self.old.out.now }
+        ensures { Puts self.old self.new (wide words.now) }
+    {
+        for word in words {
+            self.put(&word.to_be_bytes());
+        }
+    }
+
+    fn put_front(&mut self, h: Heading)
+        requires room { self.old.at + 3 ≤ length self.old.out.now }
+        ensures { Puts self.old self.new (front h) }
+    {
+        self.put(&[map_of(h), h.kind.into(), h.verdict.into()]);
+    }
+
+    fn put_p(&mut self, h: Heading)
+        requires room { self.old.at + 2 * length (p_fields h) ≤ length self.old.out.now }
+        ensures { Puts self.old self.new (wide (p_fields h)) }
+    {
+        if h.kind.has_first() {
+            self.put_words(&[h.p.on, h.p.off]);
+        }
+    }
+
+    fn put_depth(&mut self, h: Heading)
+        requires room { self.old.at + 2 * length (depth_fields h) ≤ length self.old.out.now }
+        ensures { Puts self.old self.new (wide (depth_fields h)) }
+    {
+        if h.depth > 0 {
+            self.put_words(&[h.depth]);
+        }
+    }
+
+    fn put_lengths(&mut self, tested: Valid<'_>)
+        requires room { self.old.at + 2 * length (length_fields (of_record tested.filing)) ≤ length self.old.out.now }
+        ensures { Puts self.old self.new (wide (length_fields (of_record tested.entry.filing))) }
+    {
+        if tested.filing.heading.verdict.is_broken() {
+            let stem = tested.filing.stem.len() as u16;
+            let cycle = tested.filing.cycle.len() as u16;
+            self.put_words(&[stem, cycle]);
+        }
+    }
+
+    // Section by section. One that does not stand takes no byte.
+    fn put_record(&mut self, tested: Valid<'_>)
+        requires room { self.old.at + length (encoding (of_record tested.filing)) ≤ length self.old.out.now }
+        ensures { Puts self.old self.new (encoding (of_record tested.entry.filing)) }
+    {
+        let h = tested.filing.heading;
+        self.put_front(h);
+        self.put_words(&[h.q.on, h.q.off]);
+        self.put_p(h);
+        self.put_depth(h);
+        self.put_lengths(tested);
+        self.put_words(tested.filing.stem);
+        self.put_words(tested.filing.cycle);
+    }
 }
 
-fn put_p(h: Heading, out: &mut [u8], at: usize) -> usize
-    requires { at + 2 * length (p_fields h) ≤ length out.old }
-    ensures written { out.new ≡ put at (wide (p_fields h)) out.old }
-    ensures end { result ≡ at + 2 * length (p_fields h) }
-{
-    put_fields(h.kind.has_first(), &[h.p.on, h.p.off], out, at)
+// A record that passed the test.
+#[derive(Clone, Copy)]
+struct Valid<'a> {
+    filing: Record<'a>,
+    ghost valid: { valid (of_record filing) ≡ true },
 }
 
-fn put_lengths(filing: Record<'_>, out: &mut [u8], at: usize) -> usize
-    requires { (valid (of_record filing) ≡ true) × (at + 2 * length (length_fields (of_record filing)) ≤ length out.old) }
-    ensures written { out.new ≡ put at (wide (length_fields (of_record filing.entry))) out.old }
-    ensures end { result ≡ at + 2 * length (length_fields (of_record filing.entry)) }
-{
-    put_fields(
-        filing.heading.verdict.is_broken(),
-        &[filing.stem.len() as u16, filing.cycle.len() as u16],
-        out,
-        at,
-    )
-}
+impl<'a> Valid<'a> {
+    fn new(filing: Record<'a>) -> Result<Valid<'a>, Refusal>
+        ensures refused { result_err result ≡ error_unless (valid (of_record filing.entry)) Value }
+        ensures same { IfOk result (λ v. of_record v.filing ≡ of_record filing.entry) }
+    {
+        if is_valid(filing) {
+            Ok(Valid { filing })
+        } else {
+            Err(Refusal::Value)
+        }
+    }
 
-fn room_for(stand: bool, bytes: usize) -> usize
-    ensures { (result ≡ (if stand then bytes else 0)) × (result ≤ bytes) }
-{
-    if stand { bytes } else { 0 }
-}
+    // How many bytes the record takes. It is counted before the first byte is written, so that a refusal leaves
+    // the output as it was.
+    fn size(self) -> usize
+        ensures { result ≡ length (encoding (of_record self.entry.filing)) }
+    {
+        let h = self.filing.heading;
+        7 + 4 * usize::from(h.kind.has_first())
+            + 2 * usize::from(h.depth > 0)
+            + 4 * usize::from(h.verdict.is_broken())
+            + 2 * (self.filing.stem.len() + self.filing.cycle.len())
+    }
 
-// How many bytes the record takes.
-fn size(filing: Record<'_>) -> usize
-    requires { valid (of_record filing) ≡ true }
-    ensures { result ≡ length (encoding (of_record filing.entry)) }
-{
-    let h = filing.heading;
-    let first = room_for(h.kind.has_first(), 4);
-    let depth = room_for(h.depth > 0, 2);
-    let lengths = room_for(h.verdict.is_broken(), 4);
-    7 + first + depth + lengths + 2 * filing.stem.len() + 2 * filing.cycle.len()
-}
-
-fn fits(filing: Record<'_>, room: usize) -> bool
-    requires { valid (of_record filing) ≡ true }
-    ensures { result ≡ nat_le (length (encoding (of_record filing.entry))) room }
-{
-    size(filing) <= room
-}
-
-fn put_record(filing: Record<'_>, out: &mut [u8]) -> usize
-    requires { (valid (of_record filing) ≡ true) × (length (encoding (of_record filing)) ≤ length out.old) }
-    ensures written { out.new ≡ laid (encoding (of_record filing.entry)) out.old }
-    ensures end { result ≡ length (encoding (of_record filing.entry)) }
-{
-    let h = filing.heading;
-    let at = put_front(h, out);
-    let at = put_p(h, out, at);
-    let at = put_fields(h.depth > 0, &[h.depth], out, at);
-    let at = put_lengths(filing, out, at);
-    pack(filing.stem, out, at);
-    let at = at + 2 * filing.stem.len();
-    pack(filing.cycle, out, at);
-    at + 2 * filing.cycle.len()
+    // Writes the record at the front of `out`.
+    fn put(self, out: &mut [u8])
+        requires room { length (encoding (of_record self.filing)) ≤ length out.old }
+        ensures written { out.new ≡ laid (encoding (of_record self.entry.filing)) out.old }
+    {
+        let mut cursor = Cursor { out, at: 0 };
+        cursor.put_record(self);
+    }
 }
 
 // Writes the record at the front of `out`, and answers how many bytes it takes. `back`: read again, those bytes
@@ -164,7 +181,9 @@ pub fn write(filing: Record<'_>, out: &mut [u8]) -> Result<usize, Refusal>
     ensures output { out.new ≡ laid_if (is_ok result) (encoding (of_record filing.entry)) out.old }
     ensures back { IfOk result (λ n. Reads (take n out.new) (of_record filing.entry)) }
 {
-    Refusal::Value.unless(is_valid(filing))?;
-    Refusal::OutputShort.unless(fits(filing, out.len()))?;
-    Ok(put_record(filing, out))
+    let tested = Valid::new(filing)?;
+    let size = tested.size();
+    Refusal::OutputShort.unless(size <= out.len())?;
+    tested.put(out);
+    Ok(size)
 }

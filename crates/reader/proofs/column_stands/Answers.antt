@@ -1,9 +1,13 @@
-use Rattle.std.proofs.Common.{sym, arith}
-use Rattle.records.proofs.States.{column_stop, column_more}
+use Rattle.std.proofs.Common.{ltb, sym, ◌∙◌, rules}
+use borrow.Author.Tests.{tests}
+use Rattle.std.proofs.lemmas.Iterator.{YieldsList-from_slice}
+use Rattle.std.proofs.lemmas.Iterator.Search.{all_from_yields_List}
+use Rattle.std.proofs.lemmas.List.Folds.{list_all-map}
+use Rattle.graph.specs.Bytes.{pair}
 use Rattle.reader.proofs.column_stands.Goals as goal
 
-pub returns-then-pair_at-ge1024 : goal.returns-then-pair_at-ge1024
-returns-then-pair_at-ge1024 c = sym (column_stop c.args.bytes.now c.args.at c.args.count c.loop-i.i c.loop-i-test.true (omega arith))
-
-pub loop-i-preserved : goal.loop-i-preserved
-loop-i-preserved c = column_more c.args.bytes.now c.args.at c.loop-i.i c.loop-i.invariant (omega arith)
+pub returns : goal.returns
+returns c =
+    let pieces = c.args.column.now in
+    all_from_yields_List (λ p. ltb (pair p 0) 1024) _ _ _ c.all.ensures.ran (YieldsList-from_slice pieces cc) (λ x b q k. search (rules, tests))
+    ∙ sym (list_all-map (λ s. ltb s 1024) (λ p. pair p 0) pieces)

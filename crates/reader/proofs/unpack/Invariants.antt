@@ -1,6 +1,6 @@
-use Rattle.std.proofs.Common.{◌≡◌}
-use Rattle.records.specs.Layout.{laid, pairs}
+use Rattle.std.proofs.Common.{◌≡◌, ◌++◌, take, drop}
+use Rattle.reader.specs.Parts.{numbers}
 use Rattle.reader.proofs.unpack.Given as goal
 
 abbrev pub invariant-loop-i : goal.invariant-loop-i
-invariant-loop-i l = l.list ≡ laid (pairs l.bytes l.at l.i) l.initial.list
+invariant-loop-i l = l.list ≡ take l.i (numbers l.column) ++ drop l.i l.initial.list
