@@ -6,16 +6,13 @@ mod failure;
 mod text;
 mod words;
 
+use command::{finish, read_input};
 use std::io::Read;
 use std::process::ExitCode;
 
-// How much of standard input is read.
-const MOST: u64 = 65536;
-
-fn run(rt: &HostRuntime) -> anyhow::Result<()> {
+fn run(rt: &(impl AllocGlobal + Print), input: impl Read + Drop) -> anyhow::Result<()> {
     let alloc = rt.alloc();
-    let mut bytes = Vec::new(alloc);
-    rt.stdin().take(MOST).read_to_end(&mut bytes)?;
+    let bytes = read_input(alloc, input)?;
     let mut stem = vec![in alloc; 0u16; 5120]?;
     let mut cycle = vec![in alloc; 0u16; 4096]?;
     let mut out = vec![in alloc; 0u8; bytes.len()]?;
@@ -27,11 +24,5 @@ fn run(rt: &HostRuntime) -> anyhow::Result<()> {
 }
 
 fn main(rt: HostRuntime) -> ExitCode {
-    match run(&rt) {
-        Ok(()) => ExitCode::SUCCESS,
-        Err(e) => {
-            let _ = eprintln!(rt; "explain: {e}");
-            ExitCode::FAILURE
-        }
-    }
+    finish(&rt, "explain", run(&rt, rt.stdin()))
 }
