@@ -3,7 +3,6 @@
 
 use graph::Word;
 use judging::{keeps, onward, tint_at};
-use patterns::any::AnyPattern;
 use patterns::watch::{Tint, Told};
 use std::io;
 use std::io::Read;
@@ -11,11 +10,12 @@ use std::process::ExitCode;
 
 mod input;
 
-use input::parse;
+use input::{Input, parse};
 
 // How much of standard input is read.
 const MOST: u64 = 65536;
 
+// The words are this program's own: nothing else prints a tint, and no contract speaks of them.
 fn tint_name(tint: Tint) -> &'static str {
     match tint {
         Tint::Calm => "calm",
@@ -25,16 +25,17 @@ fn tint_name(tint: Tint) -> &'static str {
 }
 
 // A line for each place of the stem and of two turns of the loop.
-fn trace(rt: &HostRuntime, pattern: &AnyPattern, stem: &[Word], cycle: &[Word]) -> io::Result<()> {
+fn trace(rt: &HostRuntime, input: &Input) -> io::Result<()> {
     let mut told = Told::Mark(0);
-    for (place, word) in stem.iter().chain(cycle).chain(cycle).enumerate() {
+    let places = input.stem.iter().chain(&input.cycle).chain(&input.cycle);
+    for (place, word) in places.enumerate() {
         let word = *word;
-        told = onward(pattern, told, word);
+        told = onward(&input.pattern, told, word);
         match told {
             Told::Kept => println!(rt; "place {place} word {word:04x} kept")?,
             Told::Broken => println!(rt; "place {place} word {word:04x} broken")?,
             Told::Mark(mark) => {
-                let tint = tint_name(tint_at(pattern, told, word));
+                let tint = tint_name(tint_at(&input.pattern, told, word));
                 println!(rt; "place {place} word {word:04x} mark {mark} {tint}")?
             }
         }
@@ -42,28 +43,14 @@ fn trace(rt: &HostRuntime, pattern: &AnyPattern, stem: &[Word], cycle: &[Word]) 
     Ok(())
 }
 
-fn show(
-    rt: &HostRuntime,
-    pattern: &AnyPattern,
-    stem: &[Word],
-    cycle: &[Word],
-) -> anyhow::Result<()> {
-    let kept = keeps(pattern, stem, cycle)?;
-    trace(rt, pattern, stem, cycle)?;
-    rt.println(if kept { "keeps" } else { "breaks" })?;
-    Ok(())
-}
-
 fn run(rt: &HostRuntime) -> anyhow::Result<()> {
     let alloc = rt.alloc();
     let text = io::read_to_string(alloc, rt.stdin().take(MOST))?;
     let input = parse(alloc, text.as_str())?;
-    show(
-        rt,
-        &input.pattern,
-        input.stem.as_slice(),
-        input.cycle.as_slice(),
-    )
+    let kept = keeps(&input.pattern, &input.stem, &input.cycle)?;
+    trace(rt, &input)?;
+    rt.println(if kept { "keeps" } else { "breaks" })?;
+    Ok(())
 }
 
 fn main(rt: HostRuntime) -> ExitCode {
