@@ -1,7 +1,7 @@
 // Prints what the watch of a pattern says at each place of a lasso of words, and whether the lasso keeps the pattern.
 #![tactic(auto)]
 
-use graph::Word;
+use command::{finish, read_text};
 use judging::{keeps, onward, tint_at};
 use patterns::watch::{Tint, Told};
 use std::io;
@@ -11,9 +11,6 @@ use std::process::ExitCode;
 mod input;
 
 use input::{Input, parse};
-
-// How much of standard input is read.
-const MOST: u64 = 65536;
 
 // The words are this program's own: nothing else prints a tint, and no contract speaks of them.
 fn tint_name(tint: Tint) -> &'static str {
@@ -25,7 +22,7 @@ fn tint_name(tint: Tint) -> &'static str {
 }
 
 // A line for each place of the stem and of two turns of the loop.
-fn trace(rt: &HostRuntime, input: &Input) -> io::Result<()> {
+fn trace(rt: &impl Print, input: &Input) -> io::Result<()> {
     let mut told = Told::Mark(0);
     let places = input.stem.iter().chain(&input.cycle).chain(&input.cycle);
     for (place, word) in places.enumerate() {
@@ -43,10 +40,9 @@ fn trace(rt: &HostRuntime, input: &Input) -> io::Result<()> {
     Ok(())
 }
 
-fn run(rt: &HostRuntime) -> anyhow::Result<()> {
-    let alloc = rt.alloc();
-    let text = io::read_to_string(alloc, rt.stdin().take(MOST))?;
-    let input = parse(alloc, text.as_str())?;
+fn run(rt: &(impl AllocGlobal + Print), source: impl Read + Drop) -> anyhow::Result<()> {
+    let text = read_text(rt.alloc(), source)?;
+    let input = parse(rt.alloc(), text.as_str())?;
     let kept = keeps(&input.pattern, &input.stem, &input.cycle)?;
     trace(rt, &input)?;
     rt.println(if kept { "keeps" } else { "breaks" })?;
@@ -54,11 +50,5 @@ fn run(rt: &HostRuntime) -> anyhow::Result<()> {
 }
 
 fn main(rt: HostRuntime) -> ExitCode {
-    match run(&rt) {
-        Ok(()) => ExitCode::SUCCESS,
-        Err(e) => {
-            let _ = eprintln!(rt; "watch: {e}");
-            ExitCode::FAILURE
-        }
-    }
+    finish(&rt, "watch", run(&rt, rt.stdin()))
 }
