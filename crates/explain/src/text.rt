@@ -14,6 +14,7 @@ use std::alloc::{AllocError, Global};
 const PREFACE: &str =
     "This record tells how a control graph was inspected for one pattern.\nA path starts in an initial state and follows arrows for ever. The pattern is asked of the places of every path.\nThe state at each place shows a word of 16 bits, bit 0 the lowest.\n";
 
+// Rust has no test of one bit.
 fn has_bit(word: Word, bit: u8) -> bool
     requires { bit < 16 }
     ensures { result ≡ has_bit word bit }
