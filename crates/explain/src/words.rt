@@ -31,6 +31,7 @@ pub(crate) fn verdict_words(verdict: Verdict) -> &'static str
     }
 }
 
+// A bool, since it is one answer to one question and picks a text, no step.
 pub(crate) fn sameness(same: bool) -> &'static str
     ensures { result.now ≡ (if same then codes "the same" else codes "not the same") }
 {

@@ -59,8 +59,8 @@ fn column(bytes: &[u8], at: usize, count: usize) -> Result<&[[u8; 2]], Refusal>
     Ok(states)
 }
 
-// Writes numbers of two bytes each at the front of a list: the rest of it is as before. By places, since nothing
-// is known of a list once `iter_mut().zip(..)` lent it.
+// Writes numbers of two bytes each at the front of a list: the rest of it is as before. By places: tried
+// `list.iter_mut().zip(column)`, where no invariant can name what the list holds.
 fn unpack(column: &[[u8; 2]], list: &mut [State])
     requires room { length column.now ≤ length list.old }
     ensures { list.new ≡ laid (numbers column.now) list.old }

@@ -70,7 +70,7 @@ impl Cursor<'_> {
         self.at = end;
     }
 
-    // Numbers take two bytes each. No `chunks_exact_mut`: nothing is known of a slice once its chunks were lent.
+    // Numbers take two bytes each. Tried `chunks_exact_mut` of the output: such a loop gets no proof.
     fn put_words(&mut self, words: &[u16])
         requires room { self.old.at + 2 * length words.now ≤ length self.old.out.now }
         ensures { Puts self.old self.new (wide words.now) }

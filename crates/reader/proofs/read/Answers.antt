@@ -11,9 +11,9 @@ returns-clause-told c =
     let f = c.in_ok-frame.frame in
     let k = c.in_ok-frame.ensures.read in
     let stem : take (length f.stem.now) c.unpack.new.list ≡ stem_of b =
-      take_laid _ c.args.stem.now _ _ c.unpack.ensures (sym (length-map f.stem.now _)) ∙ k.columns.stem_is in
+    take_laid _ c.args.stem.now _ _ c.unpack.ensures (sym (length-map f.stem.now _)) ∙ k.columns.stem_is in
     let cycle : take (length f.cycle.now) c.unpack-2.new.list ≡ cycle_of b =
-      take_laid _ c.args.cycle.now _ _ c.unpack-2.ensures (sym (length-map f.cycle.now _)) ∙ k.columns.cycle_is in
+    take_laid _ c.args.cycle.now _ _ c.unpack-2.ensures (sym (length-map f.cycle.now _)) ∙ k.columns.cycle_is in
     λ i. record { heading = k.heading_is i; stem = stem i; cycle = cycle i }
 
 pub returns-clause-only : goal.returns-clause-only
