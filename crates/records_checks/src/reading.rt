@@ -7,36 +7,36 @@ use std::alloc::Global;
 use std::process::Abort;
 use std::test::Fail;
 
-// The number of the refusal, or 0. The lists are long enough, and after a refusal they are as before.
-fn refusal_of(rt: &impl Abort, alloc: Global, bytes: &[u8]) -> Result<u8, Fail> {
-    let mut stem = vec![in alloc; 9u16; 5120]?;
-    let mut cycle = vec![in alloc; 9u16; 4096]?;
+// The number of the refusal, if there is one, with lists of these lengths: they are then as before.
+fn refusal_with(
+    rt: &impl Abort,
+    alloc: Global,
+    lengths: (usize, usize),
+    bytes: &[u8],
+) -> Result<Option<u8>, Fail> {
+    let mut stem = vec![in alloc; 9u16; lengths.0]?;
+    let mut cycle = vec![in alloc; 9u16; lengths.1]?;
     match reader::read(bytes, &mut stem, &mut cycle) {
-        Ok(_) => Ok(0),
+        Ok(_) => Ok(None),
         Err(refusal) => {
-            assert!(rt; stem == vec![in alloc; 9u16; 5120]?);
-            assert!(rt; cycle == vec![in alloc; 9u16; 4096]?);
-            Ok(u8::from(refusal))
+            assert!(rt; stem == vec![in alloc; 9u16; lengths.0]?);
+            assert!(rt; cycle == vec![in alloc; 9u16; lengths.1]?);
+            Ok(Some(u8::from(refusal)))
         }
     }
 }
 
-// The same, with lists of these lengths.
-fn refusal_with(alloc: Global, stem: usize, cycle: usize, bytes: &[u8]) -> Result<u8, Fail> {
-    let mut stem = vec![in alloc; 9u16; stem]?;
-    let mut cycle = vec![in alloc; 9u16; cycle]?;
-    match reader::read(bytes, &mut stem, &mut cycle) {
-        Ok(_) => Ok(0),
-        Err(refusal) => Ok(u8::from(refusal)),
-    }
+// The same with lists that are long enough.
+fn refusal_of(rt: &impl Abort, alloc: Global, bytes: &[u8]) -> Result<Option<u8>, Fail> {
+    refusal_with(rt, alloc, (5120, 4096), bytes)
 }
 
 #[test]
 fn lists_too_short(rt: HostRuntime) -> Result<(), Fail> {
     let alloc = rt.alloc();
-    assert_eq!(rt; refusal_with(alloc, 5119, 4096, &[])?, 28);
-    assert_eq!(rt; refusal_with(alloc, 5120, 4095, &[])?, 28);
-    assert_eq!(rt; refusal_with(alloc, 5120, 4096, &[])?, 31);
+    assert_eq!(rt; refusal_with(&rt, alloc, (5119, 4096), &[])?, Some(28));
+    assert_eq!(rt; refusal_with(&rt, alloc, (5120, 4095), &[])?, Some(28));
+    assert_eq!(rt; refusal_with(&rt, alloc, (5120, 4096), &[])?, Some(31));
     Ok(())
 }
 
@@ -56,7 +56,7 @@ fn map_pattern_and_verdict(rt: HostRuntime) -> Result<(), Fail> {
         (&[5, 5, 1], 32),
     ];
     for (bytes, number) in cases {
-        assert_eq!(rt; refusal_of(&rt, rt.alloc(), bytes)?, number);
+        assert_eq!(rt; refusal_of(&rt, rt.alloc(), bytes)?, Some(number));
     }
     Ok(())
 }
@@ -71,7 +71,7 @@ fn propositions_and_depth(rt: HostRuntime) -> Result<(), Fail> {
         (&[1, 5, 0, 0, 2, 0, 0, 0, 1, 0, 0, 9], 34),
     ];
     for (bytes, number) in cases {
-        assert_eq!(rt; refusal_of(&rt, rt.alloc(), bytes)?, number);
+        assert_eq!(rt; refusal_of(&rt, rt.alloc(), bytes)?, Some(number));
     }
     Ok(())
 }
@@ -92,7 +92,7 @@ fn lassos(rt: HostRuntime) -> Result<(), Fail> {
         (&[4, 1, 2, 0, 2, 0, 0, 0, 1, 0, 1, 3, 255, 3, 254, 0], 34),
     ];
     for (bytes, number) in cases {
-        assert_eq!(rt; refusal_of(&rt, rt.alloc(), bytes)?, number);
+        assert_eq!(rt; refusal_of(&rt, rt.alloc(), bytes)?, Some(number));
     }
     Ok(())
 }

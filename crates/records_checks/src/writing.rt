@@ -1,4 +1,5 @@
 // The writer by example, and the longest record there and back.
+use graph::State;
 use patterns::kind::Kind;
 use patterns::proposition::Proposition;
 use records::verdict::Verdict;
@@ -17,14 +18,27 @@ fn heading(kind: Kind, verdict: Verdict, on: u16) -> Heading {
     }
 }
 
-// The number of the refusal, or 0. After a refusal the output is as before.
-fn refusal_of(rt: &impl Abort, alloc: Global, filing: Record<'_>, room: usize) -> Result<u8, Fail> {
+fn record<'a>(heading: Heading, stem: &'a [State], cycle: &'a [State]) -> Record<'a> {
+    Record {
+        heading,
+        stem,
+        cycle,
+    }
+}
+
+// The number of the refusal, if there is one: the output is then as before.
+fn refusal_of(
+    rt: &impl Abort,
+    alloc: Global,
+    filing: Record<'_>,
+    room: usize,
+) -> Result<Option<u8>, Fail> {
     let mut out = vec![in alloc; 9u8; room]?;
     match writer::write(filing, &mut out) {
-        Ok(_) => Ok(0),
+        Ok(_) => Ok(None),
         Err(refusal) => {
             assert!(rt; out == vec![in alloc; 9u8; room]?);
-            Ok(u8::from(refusal))
+            Ok(Some(u8::from(refusal)))
         }
     }
 }
@@ -34,71 +48,23 @@ fn fields_that_do_not_stand(rt: HostRuntime) -> Result<(), Fail> {
     let alloc = rt.alloc();
     let always = heading(Kind::Always, Verdict::Kept, 1);
     assert_eq!(rt;
-        refusal_of(
-            &rt,
-            alloc,
-            Record {
-                heading: always,
-                stem: &[],
-                cycle: &[],
-            },
-            99,
-        )?,
-        33
+        refusal_of(&rt, alloc, record(always, &[], &[]), 99)?,
+        Some(33)
     );
     let until = heading(Kind::Until, Verdict::Kept, 1);
     assert_eq!(rt;
-        refusal_of(
-            &rt,
-            alloc,
-            Record {
-                heading: until,
-                stem: &[0],
-                cycle: &[],
-            },
-            99,
-        )?,
-        33
+        refusal_of(&rt, alloc, record(until, &[0], &[]), 99)?,
+        Some(33)
     );
     assert_eq!(rt;
-        refusal_of(
-            &rt,
-            alloc,
-            Record {
-                heading: until,
-                stem: &[],
-                cycle: &[0],
-            },
-            99,
-        )?,
-        33
+        refusal_of(&rt, alloc, record(until, &[], &[0]), 99)?,
+        Some(33)
     );
     assert_eq!(rt;
-        refusal_of(
-            &rt,
-            alloc,
-            Record {
-                heading: until,
-                stem: &[],
-                cycle: &[],
-            },
-            12,
-        )?,
-        35
+        refusal_of(&rt, alloc, record(until, &[], &[]), 12)?,
+        Some(35)
     );
-    assert_eq!(rt;
-        refusal_of(
-            &rt,
-            alloc,
-            Record {
-                heading: until,
-                stem: &[],
-                cycle: &[],
-            },
-            13,
-        )?,
-        0
-    );
+    assert_eq!(rt; refusal_of(&rt, alloc, record(until, &[], &[]), 13)?, None);
     Ok(())
 }
 
@@ -109,96 +75,30 @@ fn lassos(rt: HostRuntime) -> Result<(), Fail> {
     let stem = vec![in alloc; 1023u16; 5121]?;
     let cycle = vec![in alloc; 1023u16; 4097]?;
     assert_eq!(rt;
-        refusal_of(
-            &rt,
-            alloc,
-            Record {
-                heading: h,
-                stem: &stem,
-                cycle: &[0],
-            },
-            20000,
-        )?,
-        33
+        refusal_of(&rt, alloc, record(h, &stem, &[0]), 20000)?,
+        Some(33)
     );
     assert_eq!(rt;
-        refusal_of(
-            &rt,
-            alloc,
-            Record {
-                heading: h,
-                stem: &[],
-                cycle: &[],
-            },
-            20000,
-        )?,
-        33
+        refusal_of(&rt, alloc, record(h, &[], &[]), 20000)?,
+        Some(33)
     );
     assert_eq!(rt;
-        refusal_of(
-            &rt,
-            alloc,
-            Record {
-                heading: h,
-                stem: &[],
-                cycle: &cycle,
-            },
-            20000,
-        )?,
-        33
+        refusal_of(&rt, alloc, record(h, &[], &cycle), 20000)?,
+        Some(33)
     );
     assert_eq!(rt;
-        refusal_of(
-            &rt,
-            alloc,
-            Record {
-                heading: h,
-                stem: &[1024],
-                cycle: &[0],
-            },
-            20000,
-        )?,
-        33
+        refusal_of(&rt, alloc, record(h, &[1024], &[0]), 20000)?,
+        Some(33)
     );
     assert_eq!(rt;
-        refusal_of(
-            &rt,
-            alloc,
-            Record {
-                heading: h,
-                stem: &[0],
-                cycle: &[0, 1024],
-            },
-            0,
-        )?,
-        33
+        refusal_of(&rt, alloc, record(h, &[0], &[0, 1024]), 0)?,
+        Some(33)
     );
     assert_eq!(rt;
-        refusal_of(
-            &rt,
-            alloc,
-            Record {
-                heading: h,
-                stem: &[0],
-                cycle: &[0],
-            },
-            20,
-        )?,
-        35
+        refusal_of(&rt, alloc, record(h, &[0], &[0]), 20)?,
+        Some(35)
     );
-    assert_eq!(rt;
-        refusal_of(
-            &rt,
-            alloc,
-            Record {
-                heading: h,
-                stem: &[0],
-                cycle: &[0],
-            },
-            21,
-        )?,
-        0
-    );
+    assert_eq!(rt; refusal_of(&rt, alloc, record(h, &[0], &[0]), 21)?, None);
     Ok(())
 }
 
@@ -216,17 +116,7 @@ fn shortest(rt: HostRuntime) -> Result<(), Fail> {
         },
         depth: 0,
     };
-    assert_eq!(rt;
-        writer::write(
-            Record {
-                heading,
-                stem: &[],
-                cycle: &[],
-            },
-            &mut out,
-        )?,
-        7
-    );
+    assert_eq!(rt; writer::write(record(heading, &[], &[]), &mut out)?, 7);
     assert!(rt; out == [0, 2, 1, 1, 2, 3, 4, 9, 9]);
     Ok(())
 }
@@ -238,30 +128,11 @@ fn longest(rt: HostRuntime) -> Result<(), Fail> {
     let stem = vec![in alloc; 1023u16; 5120]?;
     let cycle = vec![in alloc; 1022u16; 4096]?;
     assert_eq!(rt;
-        refusal_of(
-            &rt,
-            alloc,
-            Record {
-                heading: h,
-                stem: &stem,
-                cycle: &cycle,
-            },
-            18448,
-        )?,
-        35
+        refusal_of(&rt, alloc, record(h, &stem, &cycle), 18448)?,
+        Some(35)
     );
     let mut out = vec![in alloc; 0u8; 18449]?;
-    assert_eq!(rt;
-        writer::write(
-            Record {
-                heading: h,
-                stem: &stem,
-                cycle: &cycle,
-            },
-            &mut out,
-        )?,
-        18449
-    );
+    assert_eq!(rt; writer::write(record(h, &stem, &cycle), &mut out)?, 18449);
     assert!(rt;
         out.starts_with(&[
             7, 5, 2, 0, 2, 0, 0, 0, 1, 0, 0, 255, 255, 20, 0, 16, 0, 3, 255,
