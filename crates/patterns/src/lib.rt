@@ -1,5 +1,5 @@
 // The six patterns of linear temporal logic, each with its path rule and its watch.
-// Each file has the same members in the same order. No two agree in the right sides, so a common piece would share names alone.
+// Each file has the same members in the same order: their right sides are the pattern, and a common piece would take them all.
 #![tactic(auto)]
 
 pub mod always;
