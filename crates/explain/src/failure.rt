@@ -5,15 +5,17 @@ ghost use Rattle.explain.specs.declared.failure.Failure.TheVariants.{Refused, Me
 
 use records::refusal::Refusal;
 use std::alloc::AllocError;
-use std::error::Error;
-use std::fmt;
+use thiserror::Error;
 
-#[derive(Clone, Copy, PartialEq, Eq, Debug)]
+#[derive(Clone, Copy, PartialEq, Eq, Debug, Error)]
 pub enum Failure {
+    #[error("{0}")]
     Refused(Refusal),
+    #[error("{0}")]
     Memory(AllocError),
 }
 
+// By hand, as the next: clauses name these errors, and a derived `From` has no contract.
 impl From<Refusal> for Failure {
     ghost from_gives = { λ refusal failure. failure ≡ Refused refusal };
 
@@ -29,14 +31,3 @@ impl From<AllocError> for Failure {
         Failure::Memory(error)
     }
 }
-
-impl fmt::Display for Failure {
-    fn fmt<W: fmt::Write>(&self, f: &mut fmt::Formatter<W>) -> fmt::Result {
-        match self {
-            Failure::Refused(refusal) => write!(f, "{refusal}"),
-            Failure::Memory(error) => write!(f, "{error}"),
-        }
-    }
-}
-
-impl Error for Failure {}

@@ -18,6 +18,7 @@ use std::fmt;
 #[derive(Clone, Copy, PartialEq, Eq, Debug)]
 pub struct EmptyLoop;
 
+// By hand: a derived `Display` states no output.
 impl fmt::Display for EmptyLoop {
     ghost output = { λ _. Some (codes "the loop has no word") };
 
@@ -137,7 +138,7 @@ fn is_broken<P: Pattern>(pattern: &P, stem: &[Word], cycle: &[Word]) -> bool
     Walk::round(pattern, stem, cycle).is_rejected()
 }
 
-// Whether the lasso breaks the path rule.
+// Whether the lasso breaks the path rule. A lasso is two lists, as the project shows one everywhere.
 pub fn judge<P: Pattern>(pattern: &P, stem: &[Word], cycle: &[Word]) -> Result<bool, EmptyLoop>
     ensures { Judged (P.Pattern.keeps pattern.now) stem.now cycle.now result }
 {

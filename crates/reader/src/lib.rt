@@ -19,7 +19,7 @@ use records::refusal::Refusal;
 use records::verdict::Verdict;
 use records::{Found, Heading};
 
-// The bytes reach up to `end`.
+// The bytes reach up to `end`: the one generic test, with the reader's error.
 fn reach_to(bytes: &[u8], end: usize) -> Result<(), Refusal>
     ensures refused { result_err result ≡ reach bytes.now end }
     ensures passed { OnOk result (end ≤ length bytes.now) }

@@ -47,7 +47,7 @@ impl<S: Source> Reading<S> {
         requires { self.now.bit < word_bits }
         ensures { result ≡ reread self.now.bit self.now.mask word }
     {
-        let one = (1 as Word) << self.bit;
+        let one: Word = 1 << self.bit;
         if word & self.mask == 0 {
             word & !one
         } else {

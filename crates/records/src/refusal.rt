@@ -72,6 +72,7 @@ impl From<UnknownVerdict> for Refusal {
     }
 }
 
+// By hand: a derived `Display` states no output.
 impl fmt::Display for Refusal {
     ghost output = { λ x. Some (refusal_text x) };
 

@@ -140,7 +140,7 @@ impl<'a> Layout<'a> {
         let end = self.rows_at();
         reach_to(self.bytes, end)?;
         let used = (self.states - 1) % 8 + 1;
-        let clear = !self.columns.initials || (self.bytes[end - 1] as u16) < 1 << used;
+        let clear = !self.columns.initials || u16::from(self.bytes[end - 1]) < 1 << used;
         test(clear, Cause::Range, end - 1)
     }
 
