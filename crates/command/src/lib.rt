@@ -10,10 +10,10 @@ use std::io::Read;
 use std::process::ExitCode;
 use std::{fmt, io};
 
-/// How many bytes of its input a program reads. It ignores the rest.
+// How many bytes of its input a program reads. It ignores the rest.
 pub const MOST: u64 = 65536;
 
-/// The bytes of the input, up to `MOST`. Which bytes those are is told where the input's type tells what it has left.
+// The bytes of the input, up to `MOST`. Which bytes those are is told where the input's type tells what it has left.
 pub fn read_input<R: Read + Drop>(alloc: Global, input: R) -> io::Result<Vec<u8>>
     ensures { IfOk result (λ bytes. IfSome (option_map (take MOST) (R.remaining input)) (λ front. bytes.items ≡ front)) }
 {
@@ -22,14 +22,14 @@ pub fn read_input<R: Read + Drop>(alloc: Global, input: R) -> io::Result<Vec<u8>
     Ok(bytes)
 }
 
-/// The same as a text. Bytes that are no text are an error.
+// The same as a text. Bytes that are no text are an error.
 pub fn read_text<R: Read + Drop>(alloc: Global, input: R) -> io::Result<String>
     ensures { IfOk result (λ text. IfSome (option_map (take MOST) (R.remaining input)) (λ front. string_bytes text ≡ front)) }
 {
     io::read_to_string(alloc, input.take(MOST))
 }
 
-/// The exit code of a program. Its error goes to standard error, on a line that the program's name begins.
+// The exit code of a program. Its error goes to standard error, on a line that the program's name begins.
 pub fn finish<E: fmt::Display + Drop>(
     rt: &impl Eprint,
     name: &str,

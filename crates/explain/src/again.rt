@@ -14,7 +14,8 @@ use records::refusal::Refusal;
 use records::{Found, Record};
 use std::alloc::Global;
 
-// What was found, with the states that the two lists hold.
+// What was found, with the states that the two lists hold. Here and below the lists and the output are lent, as reader and
+// writer take them.
 fn view<'a>(found: Found, stem: &'a [State], cycle: &'a [State]) -> Record<'a>
     requires stem_fits { found.stem ≤ length stem.now }
     requires cycle_fits { found.cycle ≤ length cycle.now }

@@ -9,9 +9,9 @@ use thiserror::Error;
 
 #[derive(Clone, Copy, PartialEq, Eq, Debug, Error)]
 pub enum Failure {
-    #[error("{0}")]
+    #[error(transparent)]
     Refused(Refusal),
-    #[error("{0}")]
+    #[error(transparent)]
     Memory(AllocError),
 }
 

@@ -47,7 +47,7 @@ fn bit_lines(alloc: Global, p: Proposition) -> Result<String, AllocError>
 fn note(p: Proposition) -> &'static str
     ensures { result.now ≡ note p }
 {
-    if p.on == 0 && p.off == 0 {
+    if p == Proposition::default() {
         "  no bit is asked for: it holds everywhere\n"
     } else if p.on & p.off == 0 {
         ""

@@ -42,6 +42,7 @@ impl From<Cause> for u8 {
     }
 }
 
+// By hand, as the next: a derived `Display` states no output.
 impl fmt::Display for Cause {
     ghost output = { λ c. Some (cause_words c) };
 

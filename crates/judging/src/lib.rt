@@ -50,7 +50,8 @@ pub fn tint_at<P: Pattern>(pattern: &P, told: Told, word: Word) -> Tint
     }
 }
 
-// What a watch has met on its way: what it said last, and whether a place was sore and one relief.
+// What a watch has met on its way: what it said last, and whether a place was sore and one relief. A walk is copied at each
+// step, so that the pattern is no part of it and is lent to each.
 #[derive(Clone, Copy)]
 struct Walk {
     told: Told,
@@ -138,7 +139,7 @@ fn is_broken<P: Pattern>(pattern: &P, stem: &[Word], cycle: &[Word]) -> bool
     Walk::round(pattern, stem, cycle).is_rejected()
 }
 
-// Whether the lasso breaks the path rule. A lasso is two lists, as the project shows one everywhere.
+// Whether the lasso breaks the path rule. Callers have a lasso as two lists, its stem and its loop.
 pub fn judge<P: Pattern>(pattern: &P, stem: &[Word], cycle: &[Word]) -> Result<bool, EmptyLoop>
     ensures { Judged (P.Pattern.keeps pattern.now) stem.now cycle.now result }
 {

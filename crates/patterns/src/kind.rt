@@ -3,9 +3,9 @@ ghost use Rattle.std.specs.Prelude.{◌≡◌, Some};
 ghost use Rattle.std.specs.Result.{result_ok};
 ghost use Rattle.patterns.specs.Kinds.{kind_number, kind_of, kind_name, has_first, NamesKind};
 
-use std::error::Error;
 use std::fmt;
 use std::str::FromStr;
+use thiserror::Error;
 
 // The discriminant is the number by which the pattern is filed.
 #[derive(Clone, Copy, PartialEq, Eq, Debug)]
@@ -19,7 +19,8 @@ pub enum Kind {
 }
 
 // A number or a name that no pattern has.
-#[derive(Clone, Copy, PartialEq, Eq, Debug)]
+#[derive(Clone, Copy, PartialEq, Eq, Debug, Error)]
+#[error("no pattern has that number or name")]
 pub struct UnknownKind;
 
 impl Kind {
@@ -57,6 +58,8 @@ impl TryFrom<u8> for Kind {
 
     ghost try_from_gives = { λ n r. result_ok r ≡ kind_of n };
 
+    // Spelled out, as every enum with numbers does: a search through the cases is no plainer, and the gate refuses an `impl`
+    // written by a macro of our own.
     fn try_from(n: u8) -> Result<Kind, UnknownKind> {
         match n {
             1 => Ok(Kind::Always),
@@ -75,7 +78,7 @@ impl FromStr for Kind {
 
     ghost from_str_gives = { NamesKind };
 
-    // The inverse of `name`, spelled out as that of the numbers is.
+    // Spelled out, as the numbers are: a search through the six by `name` is no plainer.
     fn from_str(name: &str) -> Result<Kind, UnknownKind> {
         match name {
             "always" => Ok(Kind::Always),
@@ -89,6 +92,7 @@ impl FromStr for Kind {
     }
 }
 
+// By hand: a derived `Display` states no output.
 impl fmt::Display for Kind {
     ghost output = { λ kind. Some (kind_name kind) };
 
@@ -96,11 +100,3 @@ impl fmt::Display for Kind {
         f.write_str(self.name())
     }
 }
-
-impl fmt::Display for UnknownKind {
-    fn fmt<W: fmt::Write>(&self, f: &mut fmt::Formatter<W>) -> fmt::Result {
-        f.write_str("no pattern has that number or name")
-    }
-}
-
-impl Error for UnknownKind {}

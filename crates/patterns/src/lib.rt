@@ -1,5 +1,5 @@
 // The six patterns of linear temporal logic, each with its path rule and its watch.
-// Each file has the same members in the same order: their right sides are the pattern, and a common piece would take them all.
+// Each file has the same members in the same order. What differs, rule, step, tint and law, is all that each has.
 #![tactic(auto)]
 
 pub mod always;

@@ -5,13 +5,13 @@ ghost use Rattle.patterns.specs.Words.{has, test, Holds};
 use graph::Word;
 
 // Holds in a word that has every bit of `on` and no bit of `off`.
-#[derive(Clone, Copy, PartialEq, Eq, Debug)]
+#[derive(Clone, Copy, PartialEq, Eq, Debug, Default)]
 pub struct Proposition {
     pub on: Word,
     pub off: Word,
 }
 
-// Not within `holds`: there a wrong body fails in the proof of `bits` first, and not in a clause.
+// Apart from `holds`, so that a wrong body is refused by its value.
 fn has(on: Word, off: Word, word: Word) -> bool
     ensures { result ≡ has on off word }
 {

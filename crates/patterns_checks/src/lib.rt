@@ -30,9 +30,9 @@ fn row(
     tint: [Tint; 4],
 ) -> Result<(), Fail> {
     let pattern = picked(kind);
-    for word in 0..4u8 {
-        assert_eq!(rt; pattern.step(mark, Word::from(word)), told[word as usize]);
-        assert_eq!(rt; pattern.tint(mark, Word::from(word)), tint[word as usize]);
+    for (word, (told, tint)) in (0..4).zip(told.iter().zip(&tint)) {
+        assert_eq!(rt; pattern.step(mark, word), *told);
+        assert_eq!(rt; pattern.tint(mark, word), *tint);
     }
     Ok(())
 }

@@ -3,7 +3,7 @@
 
 ghost use Rattle.std.specs.Prelude.{◌≡◌, ◌+◌, ◌*◌, ◌≤◌, [], ◌∷◌, length, is_ok, IfOk, OnOk};
 ghost use Rattle.std.specs.Result.{result_err};
-ghost use Rattle.graph.specs.Bytes.{byte};
+ghost use Rattle.graph.specs.Bytes.{byte, pair};
 ghost use Rattle.graph.specs.Tests.{error_unless, first_error};
 ghost use Rattle.records.specs.declared.refusal.Refusal.TheVariants.{Value};
 ghost use Rattle.records.specs.Layout.{laid, laid_if, pairs, states_ok, depth_at, lengths_at, stem_at, kind_in, verdict_in, p_of, q_of, depth_of, heading_of, stem_of, cycle_of, of_bytes};
@@ -19,7 +19,7 @@ use records::refusal::Refusal;
 use records::verdict::Verdict;
 use records::{Found, Heading};
 
-// The bytes reach up to `end`: the one generic test, with the reader's error.
+// The bytes reach up to `end`: what `meanings` asks of sources, by the same generic test, with the reader's error.
 fn reach_to(bytes: &[u8], end: usize) -> Result<(), Refusal>
     ensures refused { result_err result ≡ reach bytes.now end }
     ensures passed { OnOk result (end ≤ length bytes.now) }
@@ -27,7 +27,7 @@ fn reach_to(bytes: &[u8], end: usize) -> Result<(), Refusal>
     Refusal::Ends.unless(end <= bytes.len())
 }
 
-// Every one of the states, two bytes each, is one of the 1,024.
+// Every one of the states, two bytes each, is one of the 1,024. The writer asks it of numbers.
 fn column_stands(column: &[[u8; 2]]) -> bool
     ensures { result ≡ states_ok (numbers column.now) }
 {
@@ -70,7 +70,20 @@ fn unpack(column: &[[u8; 2]], list: &mut [State])
     }
 }
 
-// Which fields stand.
+// A proposition in the four bytes from `at` on.
+fn proposition_at(bytes: &[u8], at: usize) -> Proposition
+    requires small { at ≤ 7 }
+    ensures on { result.on ≡ pair bytes.now at }
+    ensures off { result.off ≡ pair bytes.now (at + 2) }
+{
+    Proposition {
+        on: pair_at(bytes, at),
+        off: pair_at(bytes, at + 2),
+    }
+}
+
+// Which fields stand: the one place where the map byte is taken apart. No set of flags, since of other bits the record is
+// refused.
 #[derive(Clone, Copy)]
 struct Standing {
     p: bool,
@@ -149,21 +162,16 @@ impl<'a> Front<'a> {
     fn q(self) -> Proposition
         ensures { result ≡ q_of self.entry.bytes.now }
     {
-        Proposition {
-            on: pair_at(self.bytes, 3),
-            off: pair_at(self.bytes, 5),
-        }
+        proposition_at(self.bytes, 3)
     }
 
     fn p(self) -> Proposition
         ensures { result ≡ p_of self.entry.bytes.now }
     {
-        if !self.stands.p {
-            return Proposition { on: 0, off: 0 };
-        }
-        Proposition {
-            on: pair_at(self.bytes, 7),
-            off: pair_at(self.bytes, 9),
+        if self.stands.p {
+            proposition_at(self.bytes, 7)
+        } else {
+            Proposition::default()
         }
     }
 
@@ -209,7 +217,7 @@ impl<'a> Front<'a> {
         Refusal::Value.unless(stem <= 5120)?;
         reach_to(self.bytes, at + 4)?;
         let cycle = usize::from(pair_at(self.bytes, at + 2));
-        Refusal::Value.unless(1 <= cycle && cycle <= 4096)?;
+        Refusal::Value.unless((1..=4096).contains(&cycle))?;
         Ok((stem, cycle))
     }
 

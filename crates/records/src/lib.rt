@@ -9,8 +9,8 @@ use patterns::kind::Kind;
 use patterns::proposition::Proposition;
 use verdict::Verdict;
 
-// What a record says besides its lasso. `p` is 0 where the pattern speaks of Q alone: no Option, since callers make
-// headings, and the rule of a valid record is about that 0.
+// What a record says besides its lasso. `p` is 0 where the pattern speaks of Q alone, and `depth` 0 is left out: no Option,
+// since callers make headings, and the rule of a valid record is about those zeros.
 #[derive(Clone, Copy, PartialEq, Eq, Debug)]
 pub struct Heading {
     pub kind: Kind,

@@ -54,7 +54,8 @@ impl From<Refusal> for u8 {
     }
 }
 
-// No pattern has the number: a value outside its range.
+// No pattern has the number: a value outside its range. By hand, as the next: clauses name the refusal, and a derived `From`
+// has no contract.
 impl From<UnknownKind> for Refusal {
     ghost from_gives = { λ _ refusal. refusal ≡ Value };
 

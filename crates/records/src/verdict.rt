@@ -3,8 +3,7 @@ ghost use Rattle.std.specs.Prelude.{◌≡◌};
 ghost use Rattle.std.specs.Result.{result_ok};
 ghost use Rattle.records.specs.Numbers.{verdict_number, verdict_of, is_broken};
 
-use std::error::Error;
-use std::fmt;
+use thiserror::Error;
 
 // The discriminant is the number by which the verdict is filed.
 #[derive(Clone, Copy, PartialEq, Eq, Debug)]
@@ -15,7 +14,8 @@ pub enum Verdict {
 }
 
 // A number that no verdict has.
-#[derive(Clone, Copy, PartialEq, Eq, Debug)]
+#[derive(Clone, Copy, PartialEq, Eq, Debug, Error)]
+#[error("no verdict has this number")]
 pub struct UnknownVerdict;
 
 impl Verdict {
@@ -39,6 +39,7 @@ impl TryFrom<u8> for Verdict {
 
     ghost try_from_gives = { λ n r. result_ok r ≡ verdict_of n };
 
+    // Spelled out, as `Kind` is.
     fn try_from(n: u8) -> Result<Verdict, UnknownVerdict> {
         match n {
             0 => Ok(Verdict::Open),
@@ -48,11 +49,3 @@ impl TryFrom<u8> for Verdict {
         }
     }
 }
-
-impl fmt::Display for UnknownVerdict {
-    fn fmt<W: fmt::Write>(&self, f: &mut fmt::Formatter<W>) -> fmt::Result {
-        f.write_str("no verdict has this number")
-    }
-}
-
-impl Error for UnknownVerdict {}

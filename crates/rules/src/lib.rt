@@ -8,7 +8,7 @@ ghost use Rattle.meanings.specs.Fields.{reach};
 ghost use Rattle.meanings.specs.RuleList.{header_fault, list_fault, rule_list};
 ghost use Rattle.rules.specs.declared.rule_array.TheConstants.{MOST};
 ghost use Rattle.rules.specs.RuleArray.{used};
-ghost use Rattle.rules.specs.Told.{told, told_sound, rules_at};
+ghost use Rattle.rules.specs.Told.{told, told_sound, holding};
 ghost use Rattle.rules.specs.Rests.{after_header, StartRead, HeaderRead, ListRead};
 
 use crate::leads::Rules;
@@ -30,12 +30,13 @@ struct Header<'a> {
     count: usize,
     start: State,
     body: &'a [u8],
+    ghost some: { 1 ≤ bits },
     ghost low: { bits ≤ 10 },
     ghost few: { count ≤ MOST },
     ghost inside: { start < 2 ^ bits },
 }
 
-// The initial value, 0 if the map leaves it out, and the bytes behind the header.
+// The initial value, 0 if the map leaves it out, and the bytes behind the header. The one place where the map is taken apart.
 fn read_start(map: u8, bytes: &[u8]) -> Result<(State, &[u8]), Fault>
     requires { 3 ≤ length bytes.now }
     ensures fault { result_err result ≡ reach bytes.now (after_header map) }
@@ -113,8 +114,8 @@ impl RuleList {
     }
 
     // The rules, if `s` is a state of theirs.
-    fn rules_at(&self, s: State) -> Option<&Rules>
-        ensures { option_copied result ≡ rules_at s self.now.read }
+    fn holding(&self, s: State) -> Option<&Rules>
+        ensures { option_copied result ≡ holding s self.now.read }
     {
         let rules = self.rules()?;
         (s < rules.states()).then_some(rules)
@@ -125,7 +126,10 @@ impl Source for RuleList {
     ghost meaning = { λ t. told t.read };
 
     fn check(&self) -> Result<(), Fault> {
-        self.read.map(|_| ())
+        match &self.read {
+            Ok(_) => Ok(()),
+            Err(fault) => Err(*fault),
+        }
     }
 
     fn states(&self) -> u16 {
@@ -142,15 +146,15 @@ impl Source for RuleList {
 
     // A state's word is its number.
     fn word(&self, s: State) -> Word {
-        self.rules_at(s).map_or(0, |_| s)
+        self.holding(s).map_or(0, |_| s)
     }
 
     fn degree(&self, s: State) -> u16 {
-        self.rules_at(s).map_or(0, |rules| rules.degree(s))
+        self.holding(s).map_or(0, |rules| rules.degree(s))
     }
 
     fn arrow(&self, s: State, j: u16) -> Option<State> {
-        self.rules_at(s)?.arrow(s, j)
+        self.holding(s)?.arrow(s, j)
     }
 
     ghost sound = { λ t. told_sound t.read };

@@ -9,7 +9,8 @@ use graph::fault::{Cause, Fault};
 use meanings::Rule;
 use meanings::fields::test;
 
-// The mask at the front, 0 if the map does not have its bit, and what comes behind it.
+// The mask at the front, 0 if the map does not have its bit, and what comes behind it. The one place where a rule's map is
+// taken apart.
 fn read_mask(map: u8, bit: u8, bytes: &[u8]) -> Option<(u16, &[u8])>
     ensures { MatchOption result (length bytes.now < mask_size (has_bit map bit))
         (λ p. MaskRead (has_bit map bit) bytes.now p.0 p.1.now) }
@@ -43,6 +44,7 @@ fn read_masks(map: u8, bytes: &[u8]) -> Option<(Rule, &[u8])>
 #[derive(Drop)]
 pub(super) struct Rest<'a> {
     pub(super) bits: u8,
+    // Not that of `left`: a fault's place counts from the front of all bytes.
     pub(super) len: usize,
     pub(super) left: &'a [u8],
     ghost low: { bits ≤ 10 },
@@ -92,7 +94,7 @@ impl<'a> Rest<'a> {
         ensures same { self.new.len ≡ self.old.len }
     {
         let mut rules = RuleArray::new();
-        // A loop, since the first fault ends it.
+        // The proof counts by `_i`.
         for _i in 0..count {
             rules.push(self.rule()?);
         }

@@ -20,15 +20,9 @@ impl RuleArray {
     pub(super) fn new() -> RuleArray
         ensures { used result ≡ [] }
     {
-        let blank = Rule {
-            on: 0,
-            off: 0,
-            set: 0,
-            clear: 0,
-        };
         RuleArray {
             count: 0,
-            rules: [blank; MOST],
+            rules: [Rule::default(); MOST],
         }
     }
 

@@ -17,7 +17,8 @@ use graph::{State, Word};
 use meanings::Columns;
 use meanings::fields::{reach_to, test};
 
-// Tests the places below `n` in order, up to the first that fails.
+// Tests the places below `n` in order, up to the first that fails. Tried `(0..n).try_for_each(..)` at its two calls: their
+// contracts stayed open.
 fn test_each<F: Fn(u16) -> Result<(), Fault>>(n: u16, test_at: F) -> Result<(), Fault>
     requires { F.IsAlwaysCallable test_at }
     ensures { IsFirstFault (F.post test_at) n result }
@@ -28,7 +29,8 @@ fn test_each<F: Fn(u16) -> Result<(), Fault>>(n: u16, test_at: F) -> Result<(), 
     Ok(())
 }
 
-// The columns that the map byte names.
+// The columns that the map byte names: the one place where it is taken apart. No `TryFrom`, since both types stand in crates
+// below.
 fn read_columns(map: u8) -> Result<Columns, Fault>
     ensures fault { result_err result ≡ unless (nat_lt map 4) Cause.MapBit 0 }
     ensures named { IfOk result (λ c. c ≡ columns_by None map) }

@@ -120,7 +120,7 @@ pub(crate) fn parse(alloc: Global, text: &str) -> Result<Input, Refusal> {
     let p = if kind.has_first() {
         lines.expect(alloc, Expected::First, |words| Ok(proposition("P", words)))?
     } else {
-        Proposition { on: 0, off: 0 }
+        Proposition::default()
     };
     let q = lines.expect(alloc, Expected::Second, |words| Ok(proposition("Q", words)))?;
     let stem = lines.expect(alloc, Expected::Stem, |words| list(alloc, "stem", words))?;

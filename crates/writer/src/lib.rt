@@ -11,6 +11,7 @@ ghost use Rattle.records.specs.Round.{of_record, Reads};
 ghost use Rattle.writer.specs.Cursors.{Puts};
 
 use graph::State;
+use patterns::proposition::Proposition;
 use records::refusal::Refusal;
 use records::{Heading, Record};
 
@@ -25,8 +26,7 @@ fn lasso_stands(stem: &[State], cycle: &[State]) -> bool
     ensures { result ≡ lasso_ok stem.now cycle.now }
 {
     stem.len() <= 5120
-        && 1 <= cycle.len()
-        && cycle.len() <= 4096
+        && (1..=4096).contains(&cycle.len())
         && states_stand(stem)
         && states_stand(cycle)
 }
@@ -36,7 +36,7 @@ fn is_valid(filing: Record<'_>) -> bool
     ensures { result ≡ valid (of_record filing.entry) }
 {
     let h = filing.heading;
-    if !h.kind.has_first() && (h.p.on != 0 || h.p.off != 0) {
+    if !h.kind.has_first() && h.p != Proposition::default() {
         return false;
     }
     if h.verdict.is_broken() {
@@ -52,7 +52,7 @@ fn map_of(h: Heading) -> u8
     u8::from(h.kind.has_first()) + 2 * u8::from(h.depth > 0) + 4 * u8::from(h.verdict.is_broken())
 }
 
-// The output, written up to `at`.
+// The output, written up to `at`. The library's cursor answers each write with a count or an error, and here none can fail.
 #[derive(Drop)]
 struct Cursor<'a> {
     out: &'a mut [u8],
@@ -110,6 +110,7 @@ impl Cursor<'_> {
         ensures { Puts self.old self.new (wide (length_fields (of_record tested.entry.filing))) }
     {
         if tested.filing.heading.verdict.is_broken() {
+            // `as`: a valid record's lengths are bounded, so that no test can fail here.
             let stem = tested.filing.stem.len() as u16;
             let cycle = tested.filing.cycle.len() as u16;
             self.put_words(&[stem, cycle]);
