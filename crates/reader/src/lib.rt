@@ -70,18 +70,6 @@ fn unpack(column: &[[u8; 2]], list: &mut [State])
     }
 }
 
-// A proposition in the four bytes from `at` on.
-fn proposition_at(bytes: &[u8], at: usize) -> Proposition
-    requires small { at ≤ 7 }
-    ensures on { result.on ≡ pair bytes.now at }
-    ensures off { result.off ≡ pair bytes.now (at + 2) }
-{
-    Proposition {
-        on: pair_at(bytes, at),
-        off: pair_at(bytes, at + 2),
-    }
-}
-
 // Which fields stand: the one place where the map byte is taken apart. No set of flags, since of other bits the record is
 // refused.
 #[derive(Clone, Copy)]
@@ -159,17 +147,29 @@ impl<'a> Front<'a> {
         self.lengths_at() + if self.stands.lasso { 4 } else { 0 }
     }
 
+    // The proposition in the four bytes from `at` on.
+    fn proposition_at(self, at: usize) -> Proposition
+        requires small { at ≤ 7 }
+        ensures on { result.on ≡ pair self.entry.bytes.now at }
+        ensures off { result.off ≡ pair self.entry.bytes.now (at + 2) }
+    {
+        Proposition {
+            on: pair_at(self.bytes, at),
+            off: pair_at(self.bytes, at + 2),
+        }
+    }
+
     fn q(self) -> Proposition
         ensures { result ≡ q_of self.entry.bytes.now }
     {
-        proposition_at(self.bytes, 3)
+        self.proposition_at(3)
     }
 
     fn p(self) -> Proposition
         ensures { result ≡ p_of self.entry.bytes.now }
     {
         if self.stands.p {
-            proposition_at(self.bytes, 7)
+            self.proposition_at(7)
         } else {
             Proposition::default()
         }
