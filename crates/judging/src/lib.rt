@@ -29,7 +29,8 @@ impl fmt::Display for EmptyLoop {
 
 impl Error for EmptyLoop {}
 
-// What the watch says to the next word: it has stopped at kept or broken, or goes on from its mark.
+// What the watch says to the next word: it has stopped at kept or broken, or goes on from its mark. Here and below the
+// pattern and the word are asked for apart, as callers have them.
 pub fn onward<P: Pattern>(pattern: &P, told: Told, word: Word) -> Told
     ensures { result ≡ onward (P.Pattern.step pattern.now) told word }
 {

@@ -267,8 +267,8 @@ fn lists_fit(stem: usize, cycle: usize) -> bool
     5120 <= stem && 4096 <= cycle
 }
 
-// Reads a record: its stem and its loop go to the fronts of the two lists. `told`: what was found, with what the
-// lists hold, is the record in the bytes. `only`: written again, that is exactly these bytes.
+// Reads a record: its stem and its loop go to the fronts of the two lists, which the caller lends. `told`: what was found,
+// with what the lists hold, is the record in the bytes. `only`: written again, that is exactly these bytes.
 pub fn read(bytes: &[u8], stem: &mut [State], cycle: &mut [State]) -> Result<Found, Refusal>
     ensures refused { result_err result ≡ reader_refusal (length stem.old) (length cycle.old) bytes.now }
     ensures answer { IfOk result (λ f. Tells f (length stem.new) (length cycle.new) (of_bytes bytes.now)) }

@@ -36,7 +36,8 @@ struct Header<'a> {
     ghost inside: { start < 2 ^ bits },
 }
 
-// The initial value, 0 if the map leaves it out, and the bytes behind the header. The one place where the map is taken apart.
+// The initial value, 0 if the map leaves it out, and the bytes behind the header. The one place where the
+// map is taken apart, for its only bit.
 fn read_start(map: u8, bytes: &[u8]) -> Result<(State, &[u8]), Fault>
     requires { 3 ≤ length bytes.now }
     ensures fault { result_err result ≡ reach bytes.now (after_header map) }

@@ -10,7 +10,7 @@ use meanings::Rule;
 use meanings::fields::test;
 
 // The mask at the front, 0 if the map does not have its bit, and what comes behind it. The one place where a rule's map is
-// taken apart.
+// taken apart. No set of flags: each bit is asked once, and says whether a field comes next.
 fn read_mask(map: u8, bit: u8, bytes: &[u8]) -> Option<(u16, &[u8])>
     ensures { MatchOption result (length bytes.now < mask_size (has_bit map bit))
         (λ p. MaskRead (has_bit map bit) bytes.now p.0 p.1.now) }

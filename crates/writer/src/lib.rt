@@ -15,7 +15,7 @@ use patterns::proposition::Proposition;
 use records::refusal::Refusal;
 use records::{Heading, Record};
 
-// Every state is one of the 1,024.
+// Every state is one of the 1,024. The reader asks it of pairs of bytes.
 fn states_stand(states: &[State]) -> bool
     ensures { result ≡ states_ok states.now }
 {
@@ -164,7 +164,7 @@ impl<'a> Valid<'a> {
             + 2 * (self.filing.stem.len() + self.filing.cycle.len())
     }
 
-    // Writes the record at the front of `out`.
+    // Writes the record at the front of the lent output.
     fn put(self, out: &mut [u8])
         requires room { length (encoding (of_record self.filing)) ≤ length out.old }
         ensures written { out.new ≡ laid (encoding (of_record self.entry.filing)) out.old }
@@ -174,7 +174,7 @@ impl<'a> Valid<'a> {
     }
 }
 
-// Writes the record at the front of `out`, and answers how many bytes it takes. `back`: read again, those bytes
+// Writes the record at the front of `out`, which the caller lends, and answers how many bytes it takes. `back`: read again, those bytes
 // are this record.
 pub fn write(filing: Record<'_>, out: &mut [u8]) -> Result<usize, Refusal>
     ensures refused { result_err result ≡ writer_refusal (of_record filing.entry) (length out.old) }
