@@ -174,8 +174,8 @@ impl<'a> Valid<'a> {
     }
 }
 
-// Writes the record at the front of `out`, which the caller lends, and answers how many bytes it takes. `back`: read again, those bytes
-// are this record.
+// Writes the record at the front of `out`, which the caller lends, and answers how many bytes it takes. `back`: read again,
+// those bytes are this record.
 pub fn write(filing: Record<'_>, out: &mut [u8]) -> Result<usize, Refusal>
     ensures refused { result_err result ≡ writer_refusal (of_record filing.entry) (length out.old) }
     ensures count { IfOk result (λ n. n ≡ length (encoding (of_record filing.entry))) }
