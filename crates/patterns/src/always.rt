@@ -19,7 +19,7 @@ pub struct Always {
 impl Pattern for Always {
     const COUNT: u8 = 1;
 
-    ghost COUNT = { 1 };
+    ghost count = { 1 };
 
     ghost keeps = { λ x. KeepsAlways (test x.q) };
 
@@ -30,6 +30,10 @@ impl Pattern for Always {
     ghost few = { Prim.search rules };
 
     ghost lawful = { λ x. always_law (test x.q) };
+
+    fn marks() -> u8 {
+        Self::COUNT
+    }
 
     fn step(&self, mark: u8, word: Word) -> Told {
         match mark {

@@ -59,7 +59,7 @@ impl AnyPattern {
 impl Pattern for AnyPattern {
     const COUNT: u8 = 2;
 
-    ghost COUNT = { 2 };
+    ghost count = { 2 };
 
     ghost keeps = { AnyKeeps };
 
@@ -77,6 +77,10 @@ impl Pattern for AnyPattern {
       | LeadsTo x ↦ leads_to_law (test x.p) (test x.q)
       | ConditionalStable x ↦ conditional_stable_law (test x.p) (test x.q)
     ] };
+
+    fn marks() -> u8 {
+        Self::COUNT
+    }
 
     // Two matches: a trait with a constant makes no `dyn`, so that nothing stands for the six but this enum.
     fn step(&self, mark: u8, word: Word) -> Told {

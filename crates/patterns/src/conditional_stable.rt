@@ -20,7 +20,7 @@ pub struct ConditionalStable {
 impl Pattern for ConditionalStable {
     const COUNT: u8 = 2;
 
-    ghost COUNT = { 2 };
+    ghost count = { 2 };
 
     ghost keeps = { λ x. KeepsConditionalStable (test x.p) (test x.q) };
 
@@ -31,6 +31,10 @@ impl Pattern for ConditionalStable {
     ghost few = { Prim.search rules };
 
     ghost lawful = { λ x. conditional_stable_law (test x.p) (test x.q) };
+
+    fn marks() -> u8 {
+        Self::COUNT
+    }
 
     fn step(&self, mark: u8, word: Word) -> Told {
         match mark {

@@ -20,7 +20,7 @@ pub struct Until {
 impl Pattern for Until {
     const COUNT: u8 = 1;
 
-    ghost COUNT = { 1 };
+    ghost count = { 1 };
 
     ghost keeps = { λ x. KeepsUntil (test x.p) (test x.q) };
 
@@ -31,6 +31,10 @@ impl Pattern for Until {
     ghost few = { Prim.search rules };
 
     ghost lawful = { λ x. until_law (test x.p) (test x.q) };
+
+    fn marks() -> u8 {
+        Self::COUNT
+    }
 
     fn step(&self, mark: u8, word: Word) -> Told {
         match mark {

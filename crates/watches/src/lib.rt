@@ -29,7 +29,9 @@ pub trait Pattern {
     // How many marks the watch has.
     const COUNT: u8;
 
-    ghost COUNT: { ℕ };
+    // That number, as a member of its own: a clause can cite the constant only by a ghost member of the constant's name,
+    // and that is refused at an `impl` with a lifetime.
+    ghost count: { ℕ };
 
     // The path rule, of a sequence of words.
     ghost keeps: { Self → (ℕ → ℕ) → Type 0 };
@@ -40,10 +42,7 @@ pub trait Pattern {
     ghost tint: { Self → ℕ → ℕ → Tint };
 
     fn marks() -> u8
-        ensures { result ≡ COUNT }
-    {
-        Self::COUNT
-    }
+        ensures { result ≡ count };
 
     fn step(&self, mark: u8, word: Word) -> Told
         ensures { result ≡ step self.now mark word };
@@ -51,7 +50,7 @@ pub trait Pattern {
     fn tint(&self, mark: u8, word: Word) -> Tint
         ensures { result ≡ tint self.now mark word };
 
-    ghost few: { (0 < COUNT) × (COUNT ≤ 4) };
+    ghost few: { (0 < count) × (count ≤ 4) };
 
-    ghost lawful: { (x : Self) → Lawful COUNT (keeps x) (step x) (tint x) };
+    ghost lawful: { (x : Self) → Lawful count (keeps x) (step x) (tint x) };
 }
