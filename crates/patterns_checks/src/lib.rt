@@ -1,8 +1,11 @@
 // The tables of the six watches, row by row.
 #![tactic(auto)]
 
+pub mod lent;
+
 use graph::Word;
 use judging::{judge, keeps};
+use lent::Lent;
 use patterns::any::AnyPattern;
 use patterns::kind::Kind;
 use patterns::proposition::Proposition;
@@ -134,5 +137,15 @@ fn lassos(rt: HostRuntime) -> Result<(), Fail> {
         assert!(rt; judge(&pattern, &[1, 1], &[1, 0])?);
         assert!(rt; judge(&pattern, &[1, 1], &none).is_err());
     }
+    Ok(())
+}
+
+// A type with a lifetime is judged as the six are.
+#[test]
+fn lent_proposition(rt: HostRuntime) -> Result<(), Fail> {
+    let q = Proposition { on: 2, off: 0 };
+    let pattern = Lent { q: &q };
+    assert!(rt; !judge(&pattern, &[2, 3], &[3, 2])?);
+    assert!(rt; judge(&pattern, &[2, 3], &[3, 1])?);
     Ok(())
 }
