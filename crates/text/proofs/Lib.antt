@@ -1,2 +1,1 @@
 pub mod ArrowCount
-pub mod Hex

@@ -5,6 +5,7 @@ use patterns::kind::Kind;
 use patterns::proposition::Proposition;
 use std::alloc::{AllocError, Global};
 use std::str;
+use std::str::SplitWhitespace;
 use thiserror::Error;
 
 #[derive(Drop)]
@@ -60,17 +61,15 @@ impl<'a> Lines<'a> {
     }
 
     // What the words of the next line say.
-    fn expect<T: Drop, F: FnOnce(&[&str]) -> Result<Option<T>, AllocError>>(
+    fn expect<T: Drop, F: FnOnce(SplitWhitespace<'a>) -> Result<Option<T>, AllocError>>(
         &mut self,
-        alloc: Global,
         expected: Expected,
         parse: F,
     ) -> Result<T, Refusal>
         requires { F.IsAlwaysCallable parse }
     {
         let line = self.next().unwrap_or("");
-        let words: Vec<&str> = line.split_whitespace().collect(alloc)?;
-        parse(&words)?.ok_or(Refusal::Line(self.asked, expected))
+        parse(line.split_whitespace())?.ok_or(Refusal::Line(self.asked, expected))
     }
 
     fn end(&mut self) -> Result<(), Refusal> {
@@ -81,9 +80,9 @@ impl<'a> Lines<'a> {
     }
 }
 
-fn kind(words: &[&str]) -> Option<Kind> {
-    match *words {
-        ["pattern", name] => name.parse().ok(),
+fn kind(mut words: SplitWhitespace) -> Option<Kind> {
+    match (words.next(), words.next(), words.next()) {
+        (Some("pattern"), Some(name), None) => name.parse().ok(),
         _ => None,
     }
 }
@@ -97,9 +96,18 @@ fn hex(text: &str) -> Option<Word> {
     Word::from_str_radix(text, 16).ok()
 }
 
-fn proposition(name: &str, words: &[&str]) -> Option<Proposition> {
-    match *words {
-        [first, "on", on, "off", off] if first == name => Some(Proposition {
+fn proposition(name: &str, mut words: SplitWhitespace) -> Option<Proposition> {
+    if words.next() != Some(name) {
+        return None;
+    }
+    match (
+        words.next(),
+        words.next(),
+        words.next(),
+        words.next(),
+        words.next(),
+    ) {
+        (Some("on"), Some(on), Some("off"), Some(off), None) => Some(Proposition {
             on: hex(on)?,
             off: hex(off)?,
         }),
@@ -107,24 +115,28 @@ fn proposition(name: &str, words: &[&str]) -> Option<Proposition> {
     }
 }
 
-fn list(alloc: Global, name: &str, words: &[&str]) -> Result<Option<Vec<Word>>, AllocError> {
-    match words {
-        [first, list @ ..] if *first == name => list.iter().map(|word| hex(word)).collect(alloc),
-        _ => Ok(None),
+fn list(
+    alloc: Global,
+    name: &str,
+    mut words: SplitWhitespace,
+) -> Result<Option<Vec<Word>>, AllocError> {
+    if words.next() != Some(name) {
+        return Ok(None);
     }
+    words.map(hex).collect(alloc)
 }
 
 pub(crate) fn parse(alloc: Global, text: &str) -> Result<Input, Refusal> {
     let mut lines = Lines::new(text);
-    let kind = lines.expect(alloc, Expected::Pattern, |words| Ok(kind(words)))?;
+    let kind = lines.expect(Expected::Pattern, |words| Ok(kind(words)))?;
     let p = if kind.has_first() {
-        lines.expect(alloc, Expected::First, |words| Ok(proposition("P", words)))?
+        lines.expect(Expected::First, |words| Ok(proposition("P", words)))?
     } else {
         Proposition::default()
     };
-    let q = lines.expect(alloc, Expected::Second, |words| Ok(proposition("Q", words)))?;
-    let stem = lines.expect(alloc, Expected::Stem, |words| list(alloc, "stem", words))?;
-    let cycle = lines.expect(alloc, Expected::Loop, |words| {
+    let q = lines.expect(Expected::Second, |words| Ok(proposition("Q", words)))?;
+    let stem = lines.expect(Expected::Stem, |words| list(alloc, "stem", words))?;
+    let cycle = lines.expect(Expected::Loop, |words| {
         Ok(list(alloc, "loop", words)?.filter(|list| !list.is_empty()))
     })?;
     lines.end()?;
