@@ -44,7 +44,7 @@ fn read_columns(map: u8) -> Result<Columns, Fault>
 
 // Bytes whose header has no fault, and what it says: which columns stand, and how many states and arrows there are.
 #[derive(Clone, Copy)]
-struct Layout<'a> {
+struct Header<'a> {
     bytes: &'a [u8],
     columns: Columns,
     states: u16,
@@ -55,10 +55,10 @@ struct Layout<'a> {
     ghost spanned: { width ≡ arrows bytes.now },
 }
 
-impl<'a> Layout<'a> {
-    fn read(bytes: &'a [u8]) -> Result<Layout<'a>, Fault>
+impl<'a> Header<'a> {
+    fn read(bytes: &'a [u8]) -> Result<Header<'a>, Fault>
         ensures fault { result_err result ≡ header_fault bytes.now }
-        ensures of_bytes { IfOk result (λ l. l.bytes.now ≡ bytes.now) }
+        ensures of_bytes { IfOk result (λ h. h.bytes.now ≡ bytes.now) }
     {
         reach_to(bytes, 1)?;
         let columns = read_columns(bytes[0])?;
@@ -68,7 +68,7 @@ impl<'a> Layout<'a> {
         reach_to(bytes, 5)?;
         let width = pair_at(bytes, 3);
         test((1..=16384).contains(&width), Cause::Range, 3)?;
-        Ok(Layout {
+        Ok(Header {
             bytes,
             columns,
             states,
@@ -107,33 +107,6 @@ impl<'a> Layout<'a> {
         self.rows_at() + 2 * self.states as usize
     }
 
-    fn end(&self) -> usize
-        ensures { result ≡ end_offset self.now.bytes.now }
-    {
-        self.targets_at() + 2 * self.width as usize
-    }
-
-    // How many arrows the states up to `i` have.
-    fn row_end(&self, i: State) -> u16
-        ensures { result ≡ row self.now.bytes.now i }
-    {
-        pair_at(self.bytes, self.rows_at() + 2 * i as usize)
-    }
-
-    // How many arrows the states before `i` have.
-    fn row_start(&self, i: State) -> u16
-        ensures { result ≡ before self.now.bytes.now i }
-    {
-        if i == 0 { 0 } else { self.row_end(i - 1) }
-    }
-
-    // Where arrow `k` of the table leads.
-    fn target(&self, k: u16) -> State
-        ensures { result ≡ target self.now.bytes.now k }
-    {
-        pair_at(self.bytes, self.targets_at() + 2 * k as usize)
-    }
-
     // The words need only be there; the initial states have no bit past N.
     fn test_columns(&self) -> Result<(), Fault>
         ensures { result_err result ≡ columns_fault self.now.bytes.now }
@@ -144,63 +117,6 @@ impl<'a> Layout<'a> {
         let used = (self.states - 1) % 8 + 1;
         let clear = !self.columns.initials || u16::from(self.bytes[end - 1]) < 1 << used;
         test(clear, Cause::Range, end - 1)
-    }
-
-    // The row end of state `i` lies above the one before and not above T, and the last is T.
-    fn test_row(&self, i: State) -> Result<(), Fault>
-        ensures { result_err result ≡ row_fault self.now.bytes.now i }
-    {
-        let end = self.row_end(i);
-        let fits = self.row_start(i) < end
-            && end <= self.width
-            && (i < self.states - 1 || end == self.width);
-        test(fits, Cause::RowEnd, self.rows_at() + 2 * i as usize)
-    }
-
-    fn test_rows(&self) -> Result<(), Fault>
-        ensures { result_err result ≡ rows_fault self.now.bytes.now }
-    {
-        reach_to(self.bytes, self.targets_at())?;
-        test_each(self.states, |i| self.test_row(i))
-    }
-
-    fn test_target(&self, k: u16) -> Result<(), Fault>
-        ensures { result_err result ≡ target_fault self.now.bytes.now k }
-    {
-        test(
-            self.target(k) < self.states,
-            Cause::Target,
-            self.targets_at() + 2 * k as usize,
-        )
-    }
-
-    // Nothing lies behind the targets.
-    fn test_length(&self) -> Result<(), Fault>
-        ensures { let end = end_offset self.now.bytes.now in
-            result_err result ≡ unless (length self.now.bytes.now == end) Cause.LeftOver end }
-    {
-        let end = self.end();
-        test(self.bytes.len() == end, Cause::LeftOver, end)
-    }
-
-    fn test_targets(&self) -> Result<(), Fault>
-        ensures { result_err result ≡ targets_fault self.now.bytes.now }
-    {
-        reach_to(self.bytes, self.end())?;
-        test_each(self.width, |k| self.test_target(k))?;
-        self.test_length()
-    }
-
-    // The layout of bytes that pass every test.
-    fn tested(bytes: &'a [u8]) -> Result<Layout<'a>, Fault>
-        ensures fault { result_err result ≡ table_fault bytes.now }
-        ensures of_bytes { IfOk result (λ l. l.bytes.now ≡ bytes.now) }
-    {
-        let layout = Layout::read(bytes)?;
-        layout.test_columns()?;
-        layout.test_rows()?;
-        layout.test_targets()?;
-        Ok(layout)
     }
 
     // What the columns tell of `s`, be it a state or not.
@@ -226,18 +142,127 @@ impl<'a> Layout<'a> {
             0
         }
     }
+}
+
+// The header, and where row ends and targets begin: found once, since each question about an arrow looks there.
+#[derive(Clone, Copy)]
+struct Layout<'a> {
+    header: Header<'a>,
+    rows_at: usize,
+    targets_at: usize,
+    ghost rows: { rows_at ≡ rows_offset header.bytes.now },
+    ghost targets: { targets_at ≡ targets_offset header.bytes.now },
+    ghost rows_low: { rows_at < 2 ^ 19 },
+    ghost targets_low: { targets_at < 2 ^ 20 },
+}
+
+impl<'a> Layout<'a> {
+    fn new(header: Header<'a>) -> Layout<'a>
+        ensures { result.header ≡ header.entry }
+    {
+        Layout {
+            header,
+            rows_at: header.rows_at(),
+            targets_at: header.targets_at(),
+        }
+    }
+
+    fn end(&self) -> usize
+        ensures { result ≡ end_offset self.now.header.bytes.now }
+    {
+        self.targets_at + 2 * self.header.width as usize
+    }
+
+    // How many arrows the states up to `i` have.
+    fn row_end(&self, i: State) -> u16
+        ensures { result ≡ row self.now.header.bytes.now i }
+    {
+        pair_at(self.header.bytes, self.rows_at + 2 * i as usize)
+    }
+
+    // How many arrows the states before `i` have.
+    fn row_start(&self, i: State) -> u16
+        ensures { result ≡ before self.now.header.bytes.now i }
+    {
+        if i == 0 { 0 } else { self.row_end(i - 1) }
+    }
+
+    // Where arrow `k` of the table leads.
+    fn target(&self, k: u16) -> State
+        ensures { result ≡ target self.now.header.bytes.now k }
+    {
+        pair_at(self.header.bytes, self.targets_at + 2 * k as usize)
+    }
+
+    // The row end of state `i` lies above the one before and not above T, and the last is T.
+    fn test_row(&self, i: State) -> Result<(), Fault>
+        ensures { result_err result ≡ row_fault self.now.header.bytes.now i }
+    {
+        let end = self.row_end(i);
+        let fits = self.row_start(i) < end
+            && end <= self.header.width
+            && (i < self.header.states - 1 || end == self.header.width);
+        test(fits, Cause::RowEnd, self.rows_at + 2 * i as usize)
+    }
+
+    fn test_rows(&self) -> Result<(), Fault>
+        ensures { result_err result ≡ rows_fault self.now.header.bytes.now }
+    {
+        reach_to(self.header.bytes, self.targets_at)?;
+        test_each(self.header.states, |i| self.test_row(i))
+    }
+
+    fn test_target(&self, k: u16) -> Result<(), Fault>
+        ensures { result_err result ≡ target_fault self.now.header.bytes.now k }
+    {
+        test(
+            self.target(k) < self.header.states,
+            Cause::Target,
+            self.targets_at + 2 * k as usize,
+        )
+    }
+
+    // Nothing lies behind the targets.
+    fn test_length(&self) -> Result<(), Fault>
+        ensures { let end = end_offset self.now.header.bytes.now in
+            result_err result ≡ unless (length self.now.header.bytes.now == end) Cause.LeftOver end }
+    {
+        let end = self.end();
+        test(self.header.bytes.len() == end, Cause::LeftOver, end)
+    }
+
+    fn test_targets(&self) -> Result<(), Fault>
+        ensures { result_err result ≡ targets_fault self.now.header.bytes.now }
+    {
+        reach_to(self.header.bytes, self.end())?;
+        test_each(self.header.width, |k| self.test_target(k))?;
+        self.test_length()
+    }
+
+    // The layout of bytes that pass every test.
+    fn tested(bytes: &'a [u8]) -> Result<Layout<'a>, Fault>
+        ensures fault { result_err result ≡ table_fault bytes.now }
+        ensures of_bytes { IfOk result (λ l. l.header.bytes.now ≡ bytes.now) }
+    {
+        let header = Header::read(bytes)?;
+        header.test_columns()?;
+        let layout = Layout::new(header);
+        layout.test_rows()?;
+        layout.test_targets()?;
+        Ok(layout)
+    }
 
     // The rows of a tested table rise, so that nothing is cut off.
     fn degree(&self, s: State) -> u16
-        ensures { result ≡ row self.now.bytes.now s - before self.now.bytes.now s }
+        ensures { result ≡ row self.now.header.bytes.now s - before self.now.header.bytes.now s }
     {
         self.row_end(s).saturating_sub(self.row_start(s))
     }
 
     fn arrow(&self, s: State, j: u16) -> Option<State>
         ensures { result
-            ≡ (if nat_lt j (row self.now.bytes.now s - before self.now.bytes.now s)
-            then Some (target self.now.bytes.now (before self.now.bytes.now s + j))
+            ≡ (if nat_lt j (row self.now.header.bytes.now s - before self.now.header.bytes.now s)
+            then Some (target self.now.header.bytes.now (before self.now.header.bytes.now s + j))
             else None) }
     {
         let start = self.row_start(s);
@@ -255,7 +280,7 @@ pub struct Table<'a> {
     bytes: &'a [u8],
     layout: Result<Layout<'a>, Fault>,
     ghost tested: { result_err layout ≡ table_fault bytes.now },
-    ghost same_bytes: { ForOk layout (λ l. l.bytes.now ≡ bytes.now) },
+    ghost same_bytes: { ForOk layout (λ l. l.header.bytes.now ≡ bytes.now) },
 }
 
 impl<'a> Table<'a> {
@@ -274,7 +299,7 @@ impl<'a> Table<'a> {
         ensures { result ≡ columns self.now.bytes.now }
     {
         self.layout
-            .map_or(Columns::default(), |layout| layout.columns)
+            .map_or(Columns::default(), |layout| layout.header.columns)
     }
 
     // The layout, if the state is there.
@@ -282,10 +307,10 @@ impl<'a> Table<'a> {
         ensures missing { IfNone result ((table self.now.bytes.now).states ≤ s) }
         ensures there { OnSome result (s < count self.now.bytes.now) }
         ensures tested { OnSome result (table_fault self.now.bytes.now ≡ None) }
-        ensures same_bytes { IfSome result (λ l. l.now.bytes.now ≡ self.now.bytes.now) }
+        ensures same_bytes { IfSome result (λ l. l.now.header.bytes.now ≡ self.now.bytes.now) }
     {
         match &self.layout {
-            Ok(layout) if s < layout.states => Some(layout),
+            Ok(layout) if s < layout.header.states => Some(layout),
             _ => None,
         }
     }
@@ -300,19 +325,20 @@ impl Source for Table<'_> {
     }
 
     fn states(&self) -> u16 {
-        self.layout.map_or(0, |layout| layout.states)
+        self.layout.map_or(0, |layout| layout.header.states)
     }
 
     fn width(&self) -> u16 {
-        self.layout.map_or(0, |layout| layout.width)
+        self.layout.map_or(0, |layout| layout.header.width)
     }
 
     fn initial(&self, s: State) -> bool {
-        self.holding(s).is_some_and(|layout| layout.initial(s))
+        self.holding(s)
+            .is_some_and(|layout| layout.header.initial(s))
     }
 
     fn word(&self, s: State) -> Word {
-        self.holding(s).map_or(0, |layout| layout.word(s))
+        self.holding(s).map_or(0, |layout| layout.header.word(s))
     }
 
     fn degree(&self, s: State) -> u16 {
