@@ -4,7 +4,7 @@
 ghost use Rattle.std.specs.Prelude.{◌≡◌, ◌+◌, ◌-◌, ◌^◌, ◌<◌, ◌≤◌, length, Some, None, OnSome, IfSome, IfNone, IfOk, if◌then◌else◌, ◌==◌, nat_lt};
 ghost use Rattle.std.specs.Result.{result_err, ForOk};
 ghost use Rattle.meanings.specs.Fields.{unless};
-ghost use Rattle.graph.specs.Bytes.{byte};
+ghost use Rattle.graph.specs.Bytes.{byte, pair};
 ghost use Rattle.meanings.specs.Table.{count, arrows, header_fault, columns_fault, rows_fault, targets_fault, row_fault, target_fault, initial_of, word_of, row, before, target, table_fault, table, columns_by, columns};
 ghost use Rattle.table.specs.Offsets.{initials_offset, rows_offset, targets_offset, end_offset};
 ghost use Rattle.table.specs.Tests.{IsFirstFault};
@@ -40,6 +40,14 @@ fn read_columns(map: u8) -> Result<Columns, Fault>
         words: map & 1 == 1,
         initials: map & 2 == 2,
     })
+}
+
+// The same as `pair_at`, of bytes that are known to be there.
+fn pair_in(bytes: &[u8], at: usize) -> u16
+    requires { at + 1 < length bytes.now }
+    ensures { result ≡ pair bytes.now at }
+{
+    u16::from_be_bytes([bytes[at], bytes[at + 1]])
 }
 
 // Bytes whose header has no fault, and what it says: which columns stand, and how many states and arrows there are.
@@ -117,30 +125,6 @@ impl<'a> Header<'a> {
         let used = (self.states - 1) % 8 + 1;
         let clear = !self.columns.initials || u16::from(self.bytes[end - 1]) < 1 << used;
         test(clear, Cause::Range, end - 1)
-    }
-
-    // What the columns tell of `s`, be it a state or not.
-    fn initial(&self, s: State) -> bool
-        ensures { result ≡ initial_of self.now.bytes.now s }
-    {
-        if self.columns.initials {
-            let at = self.initials_at() + s as usize / 8;
-            self.bytes
-                .get(at)
-                .is_some_and(|byte| (byte >> (s % 8)) % 2 == 1)
-        } else {
-            s == 0
-        }
-    }
-
-    fn word(&self, s: State) -> Word
-        ensures { result ≡ word_of self.now.bytes.now s }
-    {
-        if self.columns.words {
-            pair_at(self.bytes, 5 + 2 * s as usize)
-        } else {
-            0
-        }
     }
 }
 
@@ -251,26 +235,80 @@ impl<'a> Layout<'a> {
         layout.test_targets()?;
         Ok(layout)
     }
+}
 
-    // The rows of a tested table rise, so that nothing is cut off.
-    fn degree(&self, s: State) -> u16
-        ensures { result ≡ row self.now.header.bytes.now s - before self.now.header.bytes.now s }
+// A state of a table that passed every test: what is told of it lies in the bytes, and no question looks whether it does.
+#[derive(Clone, Copy)]
+struct Here<'a> {
+    layout: &'a Layout<'a>,
+    state: State,
+    ghost tested: { table_fault layout.now.header.bytes.now ≡ None },
+    ghost there: { state < count layout.now.header.bytes.now },
+}
+
+impl Here<'_> {
+    fn initial(self) -> bool
+        ensures { result ≡ initial_of self.entry.layout.now.header.bytes.now self.entry.state }
     {
-        self.row_end(s).saturating_sub(self.row_start(s))
+        let header = self.layout.header;
+        if !header.columns.initials {
+            return self.state == 0;
+        }
+        let at = header.initials_at() + self.state as usize / 8;
+        (header.bytes[at] >> (self.state % 8)) % 2 == 1
     }
 
-    fn arrow(&self, s: State, j: u16) -> Option<State>
-        ensures { result
-            ≡ (if nat_lt j (row self.now.header.bytes.now s - before self.now.header.bytes.now s)
-            then Some (target self.now.header.bytes.now (before self.now.header.bytes.now s + j))
-            else None) }
+    fn word(self) -> Word
+        ensures { result ≡ word_of self.entry.layout.now.header.bytes.now self.entry.state }
     {
-        let start = self.row_start(s);
-        if j < self.row_end(s).saturating_sub(start) {
-            Some(self.target(start + j))
+        let header = self.layout.header;
+        if header.columns.words {
+            pair_in(header.bytes, 5 + 2 * self.state as usize)
         } else {
-            None
+            0
         }
+    }
+
+    fn row_end(self) -> u16
+        ensures { result ≡ row self.entry.layout.now.header.bytes.now self.entry.state }
+    {
+        let layout = self.layout;
+        pair_in(
+            layout.header.bytes,
+            layout.rows_at + 2 * self.state as usize,
+        )
+    }
+
+    fn row_start(self) -> u16
+        ensures { result ≡ before self.entry.layout.now.header.bytes.now self.entry.state }
+    {
+        if self.state == 0 {
+            return 0;
+        }
+        let layout = self.layout;
+        pair_in(
+            layout.header.bytes,
+            layout.rows_at + 2 * (self.state - 1) as usize,
+        )
+    }
+
+    fn degree(self) -> u16
+        ensures { let b = self.entry.layout.now.header.bytes.now in let s = self.entry.state in
+            result ≡ row b s - before b s }
+    {
+        self.row_end() - self.row_start()
+    }
+
+    fn arrow(self, j: u16) -> Option<State>
+        ensures { let b = self.entry.layout.now.header.bytes.now in let s = self.entry.state in
+            result ≡ (if nat_lt j (row b s - before b s) then Some (target b (before b s + j)) else None) }
+    {
+        if j >= self.degree() {
+            return None;
+        }
+        let layout = self.layout;
+        let k = self.row_start() + j;
+        Some(pair_in(layout.header.bytes, layout.targets_at + 2 * k as usize))
     }
 }
 
@@ -302,15 +340,13 @@ impl<'a> Table<'a> {
             .map_or(Columns::default(), |layout| layout.header.columns)
     }
 
-    // The layout, if the state is there.
-    fn holding(&self, s: State) -> Option<&Layout<'a>>
+    fn holding(&self, s: State) -> Option<Here<'_>>
         ensures missing { IfNone result ((table self.now.bytes.now).states ≤ s) }
-        ensures there { OnSome result (s < count self.now.bytes.now) }
-        ensures tested { OnSome result (table_fault self.now.bytes.now ≡ None) }
-        ensures same_bytes { IfSome result (λ l. l.now.header.bytes.now ≡ self.now.bytes.now) }
+        ensures state { IfSome result (λ h. h.state ≡ s) }
+        ensures same_bytes { IfSome result (λ h. h.layout.now.header.bytes.now ≡ self.now.bytes.now) }
     {
         match &self.layout {
-            Ok(layout) if s < layout.header.states => Some(layout),
+            Ok(layout) if s < layout.header.states => Some(Here { layout, state: s }),
             _ => None,
         }
     }
@@ -333,20 +369,19 @@ impl Source for Table<'_> {
     }
 
     fn initial(&self, s: State) -> bool {
-        self.holding(s)
-            .is_some_and(|layout| layout.header.initial(s))
+        self.holding(s).is_some_and(|here| here.initial())
     }
 
     fn word(&self, s: State) -> Word {
-        self.holding(s).map_or(0, |layout| layout.header.word(s))
+        self.holding(s).map_or(0, |here| here.word())
     }
 
     fn degree(&self, s: State) -> u16 {
-        self.holding(s).map_or(0, |layout| layout.degree(s))
+        self.holding(s).map_or(0, |here| here.degree())
     }
 
     fn arrow(&self, s: State, j: u16) -> Option<State> {
-        self.holding(s)?.arrow(s, j)
+        self.holding(s)?.arrow(j)
     }
 
     ghost sound = { λ t. table_sound t.bytes.now };
