@@ -32,7 +32,7 @@ none_from (t ∷ ts) p = rw (p.0, none_from ts p.1)
 passed : (ok : Bool) (r : Refusal) → ok ≡ true → error_unless ok r ≡ None
 passed ok r e = rw e
 
-same_true : (x y : Bool) → same x y ≡ true → x ≡ y
+pub same_true : (x y : Bool) → same x y ≡ true → x ≡ y
 same_true true y e = sym e
 same_true false true e = absurd (true≢false (sym e))
 same_true false false e = refl

@@ -4,7 +4,7 @@
 ghost use Rattle.std.specs.Prelude.{◌≡◌, ◌+◌, ◌-◌, ◌^◌, ◌<◌, ◌≤◌, length, Some, None, OnSome, IfSome, IfNone, IfOk, if◌then◌else◌, ◌==◌, nat_lt};
 ghost use Rattle.std.specs.Result.{result_err, ForOk};
 ghost use Rattle.meanings.specs.Fields.{unless};
-ghost use Rattle.graph.specs.Bytes.{byte};
+ghost use Rattle.graph.specs.Bytes.{byte, pair};
 ghost use Rattle.meanings.specs.Table.{count, arrows, header_fault, columns_fault, rows_fault, targets_fault, row_fault, target_fault, initial_of, word_of, row, before, target, table_fault, table, columns_by, columns};
 ghost use Rattle.table.specs.Offsets.{initials_offset, rows_offset, targets_offset, end_offset};
 ghost use Rattle.table.specs.Tests.{IsFirstFault};
@@ -42,9 +42,17 @@ fn read_columns(map: u8) -> Result<Columns, Fault>
     })
 }
 
+// The same as `pair_at`, of bytes that are known to be there.
+fn pair_in(bytes: &[u8], at: usize) -> u16
+    requires { at + 1 < length bytes.now }
+    ensures { result ≡ pair bytes.now at }
+{
+    u16::from_be_bytes([bytes[at], bytes[at + 1]])
+}
+
 // Bytes whose header has no fault, and what it says: which columns stand, and how many states and arrows there are.
 #[derive(Clone, Copy)]
-struct Layout<'a> {
+struct Header<'a> {
     bytes: &'a [u8],
     columns: Columns,
     states: u16,
@@ -55,10 +63,10 @@ struct Layout<'a> {
     ghost spanned: { width ≡ arrows bytes.now },
 }
 
-impl<'a> Layout<'a> {
-    fn read(bytes: &'a [u8]) -> Result<Layout<'a>, Fault>
+impl<'a> Header<'a> {
+    fn read(bytes: &'a [u8]) -> Result<Header<'a>, Fault>
         ensures fault { result_err result ≡ header_fault bytes.now }
-        ensures of_bytes { IfOk result (λ l. l.bytes.now ≡ bytes.now) }
+        ensures of_bytes { IfOk result (λ h. h.bytes.now ≡ bytes.now) }
     {
         reach_to(bytes, 1)?;
         let columns = read_columns(bytes[0])?;
@@ -68,7 +76,7 @@ impl<'a> Layout<'a> {
         reach_to(bytes, 5)?;
         let width = pair_at(bytes, 3);
         test((1..=16384).contains(&width), Cause::Range, 3)?;
-        Ok(Layout {
+        Ok(Header {
             bytes,
             columns,
             states,
@@ -107,33 +115,6 @@ impl<'a> Layout<'a> {
         self.rows_at() + 2 * self.states as usize
     }
 
-    fn end(&self) -> usize
-        ensures { result ≡ end_offset self.now.bytes.now }
-    {
-        self.targets_at() + 2 * self.width as usize
-    }
-
-    // How many arrows the states up to `i` have.
-    fn row_end(&self, i: State) -> u16
-        ensures { result ≡ row self.now.bytes.now i }
-    {
-        pair_at(self.bytes, self.rows_at() + 2 * i as usize)
-    }
-
-    // How many arrows the states before `i` have.
-    fn row_start(&self, i: State) -> u16
-        ensures { result ≡ before self.now.bytes.now i }
-    {
-        if i == 0 { 0 } else { self.row_end(i - 1) }
-    }
-
-    // Where arrow `k` of the table leads.
-    fn target(&self, k: u16) -> State
-        ensures { result ≡ target self.now.bytes.now k }
-    {
-        pair_at(self.bytes, self.targets_at() + 2 * k as usize)
-    }
-
     // The words need only be there; the initial states have no bit past N.
     fn test_columns(&self) -> Result<(), Fault>
         ensures { result_err result ≡ columns_fault self.now.bytes.now }
@@ -145,107 +126,189 @@ impl<'a> Layout<'a> {
         let clear = !self.columns.initials || u16::from(self.bytes[end - 1]) < 1 << used;
         test(clear, Cause::Range, end - 1)
     }
+}
+
+// The header, and where row ends and targets begin: found once, since each question about an arrow looks there.
+#[derive(Clone, Copy)]
+struct Layout<'a> {
+    header: Header<'a>,
+    rows_at: usize,
+    targets_at: usize,
+    ghost rows: { rows_at ≡ rows_offset header.bytes.now },
+    ghost targets: { targets_at ≡ targets_offset header.bytes.now },
+    ghost rows_low: { rows_at < 2 ^ 19 },
+    ghost targets_low: { targets_at < 2 ^ 20 },
+}
+
+impl<'a> Layout<'a> {
+    fn new(header: Header<'a>) -> Layout<'a>
+        ensures { result.header ≡ header.entry }
+    {
+        Layout {
+            header,
+            rows_at: header.rows_at(),
+            targets_at: header.targets_at(),
+        }
+    }
+
+    fn end(&self) -> usize
+        ensures { result ≡ end_offset self.now.header.bytes.now }
+    {
+        self.targets_at + 2 * self.header.width as usize
+    }
+
+    // How many arrows the states up to `i` have.
+    fn row_end(&self, i: State) -> u16
+        ensures { result ≡ row self.now.header.bytes.now i }
+    {
+        pair_at(self.header.bytes, self.rows_at + 2 * i as usize)
+    }
+
+    // How many arrows the states before `i` have.
+    fn row_start(&self, i: State) -> u16
+        ensures { result ≡ before self.now.header.bytes.now i }
+    {
+        if i == 0 { 0 } else { self.row_end(i - 1) }
+    }
+
+    // Where arrow `k` of the table leads.
+    fn target(&self, k: u16) -> State
+        ensures { result ≡ target self.now.header.bytes.now k }
+    {
+        pair_at(self.header.bytes, self.targets_at + 2 * k as usize)
+    }
 
     // The row end of state `i` lies above the one before and not above T, and the last is T.
     fn test_row(&self, i: State) -> Result<(), Fault>
-        ensures { result_err result ≡ row_fault self.now.bytes.now i }
+        ensures { result_err result ≡ row_fault self.now.header.bytes.now i }
     {
         let end = self.row_end(i);
         let fits = self.row_start(i) < end
-            && end <= self.width
-            && (i < self.states - 1 || end == self.width);
-        test(fits, Cause::RowEnd, self.rows_at() + 2 * i as usize)
+            && end <= self.header.width
+            && (i < self.header.states - 1 || end == self.header.width);
+        test(fits, Cause::RowEnd, self.rows_at + 2 * i as usize)
     }
 
     fn test_rows(&self) -> Result<(), Fault>
-        ensures { result_err result ≡ rows_fault self.now.bytes.now }
+        ensures { result_err result ≡ rows_fault self.now.header.bytes.now }
     {
-        reach_to(self.bytes, self.targets_at())?;
-        test_each(self.states, |i| self.test_row(i))
+        reach_to(self.header.bytes, self.targets_at)?;
+        test_each(self.header.states, |i| self.test_row(i))
     }
 
     fn test_target(&self, k: u16) -> Result<(), Fault>
-        ensures { result_err result ≡ target_fault self.now.bytes.now k }
+        ensures { result_err result ≡ target_fault self.now.header.bytes.now k }
     {
         test(
-            self.target(k) < self.states,
+            self.target(k) < self.header.states,
             Cause::Target,
-            self.targets_at() + 2 * k as usize,
+            self.targets_at + 2 * k as usize,
         )
     }
 
     // Nothing lies behind the targets.
     fn test_length(&self) -> Result<(), Fault>
-        ensures { let end = end_offset self.now.bytes.now in
-            result_err result ≡ unless (length self.now.bytes.now == end) Cause.LeftOver end }
+        ensures { let end = end_offset self.now.header.bytes.now in
+            result_err result ≡ unless (length self.now.header.bytes.now == end) Cause.LeftOver end }
     {
         let end = self.end();
-        test(self.bytes.len() == end, Cause::LeftOver, end)
+        test(self.header.bytes.len() == end, Cause::LeftOver, end)
     }
 
     fn test_targets(&self) -> Result<(), Fault>
-        ensures { result_err result ≡ targets_fault self.now.bytes.now }
+        ensures { result_err result ≡ targets_fault self.now.header.bytes.now }
     {
-        reach_to(self.bytes, self.end())?;
-        test_each(self.width, |k| self.test_target(k))?;
+        reach_to(self.header.bytes, self.end())?;
+        test_each(self.header.width, |k| self.test_target(k))?;
         self.test_length()
     }
 
     // The layout of bytes that pass every test.
     fn tested(bytes: &'a [u8]) -> Result<Layout<'a>, Fault>
         ensures fault { result_err result ≡ table_fault bytes.now }
-        ensures of_bytes { IfOk result (λ l. l.bytes.now ≡ bytes.now) }
+        ensures of_bytes { IfOk result (λ l. l.header.bytes.now ≡ bytes.now) }
     {
-        let layout = Layout::read(bytes)?;
-        layout.test_columns()?;
+        let header = Header::read(bytes)?;
+        header.test_columns()?;
+        let layout = Layout::new(header);
         layout.test_rows()?;
         layout.test_targets()?;
         Ok(layout)
     }
+}
 
-    // What the columns tell of `s`, be it a state or not.
-    fn initial(&self, s: State) -> bool
-        ensures { result ≡ initial_of self.now.bytes.now s }
+// A state of a table that passed every test: what is told of it lies in the bytes, and no question looks whether it does.
+#[derive(Clone, Copy)]
+struct Here<'a> {
+    layout: &'a Layout<'a>,
+    state: State,
+    ghost tested: { table_fault layout.now.header.bytes.now ≡ None },
+    ghost there: { state < count layout.now.header.bytes.now },
+}
+
+impl Here<'_> {
+    fn initial(self) -> bool
+        ensures { result ≡ initial_of self.entry.layout.now.header.bytes.now self.entry.state }
     {
-        if self.columns.initials {
-            let at = self.initials_at() + s as usize / 8;
-            self.bytes
-                .get(at)
-                .is_some_and(|byte| (byte >> (s % 8)) % 2 == 1)
-        } else {
-            s == 0
+        let header = self.layout.header;
+        if !header.columns.initials {
+            return self.state == 0;
         }
+        let at = header.initials_at() + self.state as usize / 8;
+        (header.bytes[at] >> (self.state % 8)) % 2 == 1
     }
 
-    fn word(&self, s: State) -> Word
-        ensures { result ≡ word_of self.now.bytes.now s }
+    fn word(self) -> Word
+        ensures { result ≡ word_of self.entry.layout.now.header.bytes.now self.entry.state }
     {
-        if self.columns.words {
-            pair_at(self.bytes, 5 + 2 * s as usize)
+        let header = self.layout.header;
+        if header.columns.words {
+            pair_in(header.bytes, 5 + 2 * self.state as usize)
         } else {
             0
         }
     }
 
-    // The rows of a tested table rise, so that nothing is cut off.
-    fn degree(&self, s: State) -> u16
-        ensures { result ≡ row self.now.bytes.now s - before self.now.bytes.now s }
+    fn row_end(self) -> u16
+        ensures { result ≡ row self.entry.layout.now.header.bytes.now self.entry.state }
     {
-        self.row_end(s).saturating_sub(self.row_start(s))
+        let layout = self.layout;
+        pair_in(
+            layout.header.bytes,
+            layout.rows_at + 2 * self.state as usize,
+        )
     }
 
-    fn arrow(&self, s: State, j: u16) -> Option<State>
-        ensures { result
-            ≡ (if nat_lt j (row self.now.bytes.now s - before self.now.bytes.now s)
-            then Some (target self.now.bytes.now (before self.now.bytes.now s + j))
-            else None) }
+    fn row_start(self) -> u16
+        ensures { result ≡ before self.entry.layout.now.header.bytes.now self.entry.state }
     {
-        let start = self.row_start(s);
-        if j < self.row_end(s).saturating_sub(start) {
-            Some(self.target(start + j))
-        } else {
-            None
+        if self.state == 0 {
+            return 0;
         }
+        let layout = self.layout;
+        pair_in(
+            layout.header.bytes,
+            layout.rows_at + 2 * (self.state - 1) as usize,
+        )
+    }
+
+    fn degree(self) -> u16
+        ensures { let b = self.entry.layout.now.header.bytes.now in let s = self.entry.state in
+            result ≡ row b s - before b s }
+    {
+        self.row_end() - self.row_start()
+    }
+
+    fn arrow(self, j: u16) -> Option<State>
+        ensures { let b = self.entry.layout.now.header.bytes.now in let s = self.entry.state in
+            result ≡ (if nat_lt j (row b s - before b s) then Some (target b (before b s + j)) else None) }
+    {
+        if j >= self.degree() {
+            return None;
+        }
+        let layout = self.layout;
+        let k = self.row_start() + j;
+        Some(pair_in(layout.header.bytes, layout.targets_at + 2 * k as usize))
     }
 }
 
@@ -255,7 +318,7 @@ pub struct Table<'a> {
     bytes: &'a [u8],
     layout: Result<Layout<'a>, Fault>,
     ghost tested: { result_err layout ≡ table_fault bytes.now },
-    ghost same_bytes: { ForOk layout (λ l. l.bytes.now ≡ bytes.now) },
+    ghost same_bytes: { ForOk layout (λ l. l.header.bytes.now ≡ bytes.now) },
 }
 
 impl<'a> Table<'a> {
@@ -274,18 +337,16 @@ impl<'a> Table<'a> {
         ensures { result ≡ columns self.now.bytes.now }
     {
         self.layout
-            .map_or(Columns::default(), |layout| layout.columns)
+            .map_or(Columns::default(), |layout| layout.header.columns)
     }
 
-    // The layout, if the state is there.
-    fn holding(&self, s: State) -> Option<&Layout<'a>>
+    fn holding(&self, s: State) -> Option<Here<'_>>
         ensures missing { IfNone result ((table self.now.bytes.now).states ≤ s) }
-        ensures there { OnSome result (s < count self.now.bytes.now) }
-        ensures tested { OnSome result (table_fault self.now.bytes.now ≡ None) }
-        ensures same_bytes { IfSome result (λ l. l.now.bytes.now ≡ self.now.bytes.now) }
+        ensures state { IfSome result (λ h. h.state ≡ s) }
+        ensures same_bytes { IfSome result (λ h. h.layout.now.header.bytes.now ≡ self.now.bytes.now) }
     {
         match &self.layout {
-            Ok(layout) if s < layout.states => Some(layout),
+            Ok(layout) if s < layout.header.states => Some(Here { layout, state: s }),
             _ => None,
         }
     }
@@ -300,27 +361,27 @@ impl Source for Table<'_> {
     }
 
     fn states(&self) -> u16 {
-        self.layout.map_or(0, |layout| layout.states)
+        self.layout.map_or(0, |layout| layout.header.states)
     }
 
     fn width(&self) -> u16 {
-        self.layout.map_or(0, |layout| layout.width)
+        self.layout.map_or(0, |layout| layout.header.width)
     }
 
     fn initial(&self, s: State) -> bool {
-        self.holding(s).is_some_and(|layout| layout.initial(s))
+        self.holding(s).is_some_and(|here| here.initial())
     }
 
     fn word(&self, s: State) -> Word {
-        self.holding(s).map_or(0, |layout| layout.word(s))
+        self.holding(s).map_or(0, |here| here.word())
     }
 
     fn degree(&self, s: State) -> u16 {
-        self.holding(s).map_or(0, |layout| layout.degree(s))
+        self.holding(s).map_or(0, |here| here.degree())
     }
 
     fn arrow(&self, s: State, j: u16) -> Option<State> {
-        self.holding(s)?.arrow(s, j)
+        self.holding(s)?.arrow(j)
     }
 
     ghost sound = { λ t. table_sound t.bytes.now };
