@@ -82,7 +82,9 @@ impl Pattern for AnyPattern {
         Self::COUNT
     }
 
-    // Two matches: a trait with a constant makes no `dyn`, so that nothing stands for the six but this enum.
+    // Two matches: a trait with a constant makes no `dyn`, so that nothing stands for the six but this enum. Inlined, since a
+    // search asks at each arrow, and its loops then know the pattern.
+    #[inline(always)]
     fn step(&self, mark: u8, word: Word) -> Told {
         match self {
             AnyPattern::Always(x) => x.step(mark, word),
@@ -94,6 +96,7 @@ impl Pattern for AnyPattern {
         }
     }
 
+    #[inline(always)]
     fn tint(&self, mark: u8, word: Word) -> Tint {
         match self {
             AnyPattern::Always(x) => x.tint(mark, word),

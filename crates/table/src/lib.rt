@@ -1,7 +1,7 @@
 // A control table: the bytes of a graph in a fixed layout.
 #![tactic(auto)]
 
-ghost use Rattle.std.specs.Prelude.{◌≡◌, ◌+◌, ◌-◌, ◌^◌, ◌<◌, ◌≤◌, length, Some, None, OnSome, IfSome, IfNone, IfOk, if◌then◌else◌, ◌==◌, nat_lt};
+ghost use Rattle.std.specs.Prelude.{◌≡◌, ℕ, ◌+◌, ◌-◌, ◌^◌, ◌<◌, ◌≤◌, length, Some, None, OnSome, IfSome, IfNone, IfOk, if◌then◌else◌, ◌==◌, nat_lt};
 ghost use Rattle.std.specs.Result.{result_err, ForOk};
 ghost use Rattle.meanings.specs.Fields.{unless};
 ghost use Rattle.graph.specs.Bytes.{byte, pair};
@@ -20,7 +20,7 @@ use meanings::fields::{reach_to, test};
 // Tests the places below `n` in order, up to the first that fails. Tried `(0..n).try_for_each(..)` at its two calls: their
 // contracts stayed open.
 fn test_each<F: Fn(u16) -> Result<(), Fault>>(n: u16, test_at: F) -> Result<(), Fault>
-    requires { F.IsAlwaysCallable test_at }
+    requires { (k : ℕ) → k < n → F.pre test_at k }
     ensures { IsFirstFault (F.post test_at) n result }
 {
     for k in 0..n {
@@ -157,36 +157,23 @@ impl<'a> Layout<'a> {
         self.targets_at + 2 * self.header.width as usize
     }
 
-    // How many arrows the states up to `i` have.
-    fn row_end(&self, i: State) -> u16
-        ensures { result ≡ row self.now.header.bytes.now i }
-    {
-        pair_at(self.header.bytes, self.rows_at + 2 * i as usize)
-    }
-
-    // How many arrows the states before `i` have.
-    fn row_start(&self, i: State) -> u16
-        ensures { result ≡ before self.now.header.bytes.now i }
-    {
-        if i == 0 { 0 } else { self.row_end(i - 1) }
-    }
-
-    // Where arrow `k` of the table leads.
-    fn target(&self, k: u16) -> State
-        ensures { result ≡ target self.now.header.bytes.now k }
-    {
-        pair_at(self.header.bytes, self.targets_at + 2 * k as usize)
-    }
-
     // The row end of state `i` lies above the one before and not above T, and the last is T.
     fn test_row(&self, i: State) -> Result<(), Fault>
+        requires there { i < count self.now.header.bytes.now }
+        requires reached { targets_offset self.now.header.bytes.now ≤ length self.now.header.bytes.now }
         ensures { result_err result ≡ row_fault self.now.header.bytes.now i }
     {
-        let end = self.row_end(i);
-        let fits = self.row_start(i) < end
-            && end <= self.header.width
-            && (i < self.header.states - 1 || end == self.header.width);
-        test(fits, Cause::RowEnd, self.rows_at + 2 * i as usize)
+        let Header {
+            bytes,
+            states,
+            width,
+            ..
+        } = self.header;
+        let at = self.rows_at + 2 * i as usize;
+        let start = if i == 0 { 0 } else { pair_in(bytes, at - 2) };
+        let end = pair_in(bytes, at);
+        let fits = start < end && end <= width && (i < states - 1 || end == width);
+        test(fits, Cause::RowEnd, at)
     }
 
     fn test_rows(&self) -> Result<(), Fault>
@@ -197,13 +184,13 @@ impl<'a> Layout<'a> {
     }
 
     fn test_target(&self, k: u16) -> Result<(), Fault>
+        requires there { k < arrows self.now.header.bytes.now }
+        requires reached { end_offset self.now.header.bytes.now ≤ length self.now.header.bytes.now }
         ensures { result_err result ≡ target_fault self.now.header.bytes.now k }
     {
-        test(
-            self.target(k) < self.header.states,
-            Cause::Target,
-            self.targets_at + 2 * k as usize,
-        )
+        let at = self.targets_at + 2 * k as usize;
+        let target = pair_in(self.header.bytes, at);
+        test(target < self.header.states, Cause::Target, at)
     }
 
     // Nothing lies behind the targets.
