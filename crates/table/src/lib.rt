@@ -256,6 +256,7 @@ impl Here<'_> {
         }
     }
 
+    // How many arrows this state and those before it have.
     fn row_end(self) -> u16
         ensures { result ≡ row self.entry.layout.now.header.bytes.now self.entry.state }
     {
@@ -266,6 +267,7 @@ impl Here<'_> {
         )
     }
 
+    // How many arrows the states before it have.
     fn row_start(self) -> u16
         ensures { result ≡ before self.entry.layout.now.header.bytes.now self.entry.state }
     {
